@@ -1,0 +1,4 @@
+pub mod Kinds
+pub mod Results
+pub mod Spans
+pub mod Terms

@@ -1,0 +1,76 @@
+-- Frames and the rows in them (Jelly RDF serialization, "Delimited variant of Jelly" and "RdfStreamFrame").
+use Rattle.std.specs.Prelude.{ℕ, zero, suc, ◌+◌, ◌-◌, Bool, ◌==◌, List, [], ◌∷◌, length, take, drop, Option, Some, None, Result, Ok, Err, nat_lt, if◌then◌else◌}
+use Rattle.jl_base.specs.Results.{◌>>=◌, refuse_if, Reading, led, with_front, followed, joined}
+use Rattle.jl_base.specs.declared.kind.Kind.{Kind}
+use Rattle.jl_base.specs.declared.kind.Kind.TheVariants.{Truncated, WrongWire}
+use Rattle.jl_base.specs.declared.place.Place.{Place}
+use Rattle.jl_base.specs.declared.place.Fault.{Fault}
+use Rattle.jl_wire.specs.Varint.{varint}
+use Rattle.jl_wire.specs.Fields.{Content, Field, fields}
+use Rattle.jl_rows.specs.Written.{Row}
+use Rattle.jl_rows.specs.Rows.{row}
+
+-- what a field of a frame is: a row, metadata whose content is unread, or unknown
+abbrev pub row_in : Content → Result Row Kind
+row_in (Content.Bytes t) = row t
+row_in _ = Err WrongWire
+
+abbrev pub skipped : Content → Result (Unit {0}) Kind
+skipped (Content.Bytes t) = Ok tt
+skipped _ = Err WrongWire
+
+-- the rows of a frame, in the order of its fields, up to the first fault
+unfoldable pub rows_among : List Field → Option Kind → Reading Row Kind
+rows_among [] fault = record { items = []; fault = fault }
+rows_among (f ∷ fs) fault =
+    if f.number == 1 then led (row_in f.content) (λ r. with_front r (rows_among fs fault))
+    else if f.number == 15 then led (skipped f.content) (λ _. rows_among fs fault)
+    else rows_among fs fault
+
+unfoldable pub rows : List ℕ → Reading Row Kind
+rows body = rows_among (fields body).items (fields body).fault
+
+-- the bodies of a file's frames, each after its length; the rest behind them is a fault where it is no whole frame
+abbrev pub body : List ℕ → Result (List ℕ × ℕ) Kind
+body bytes = varint bytes >>= λ len. if nat_lt (length bytes - len.1) len.0 then Err Truncated else Ok (take len.0 (drop len.1 bytes), len.1 + len.0)
+
+unfoldable pub frames_after : ℕ → List ℕ → Reading (List ℕ) Kind
+frames_after skip [] = record { items = []; fault = None }
+frames_after (suc skip) (b ∷ bytes) = frames_after skip bytes
+frames_after zero (b ∷ bytes) = led (body (b ∷ bytes)) (λ f. with_front f.0 (frames_after (f.1 - 1) bytes))
+
+abbrev pub frames : List ℕ → Reading (List ℕ) Kind
+frames bytes = frames_after 0 bytes
+
+-- a row with its place
+pub record Placed : Type 0 where
+  pub place : Place
+  pub row : Row
+
+-- the place of a row: its frame, and one more than the rows before it there
+abbrev pub place_at : ℕ → ℕ → Place
+place_at frame n = record { frame = frame; row = n }
+
+abbrev pub fault_at : ℕ → ℕ → Kind → Fault
+fault_at frame n kind = record { place = place_at frame n; kind = kind }
+
+abbrev pub ends_at : ℕ → ℕ → Option Kind → Option Fault
+ends_at frame before None = None
+ends_at frame before (Some kind) = Some (fault_at frame before kind)
+
+-- the rows of a frame at their places, of which so many stood before
+unfoldable pub placed : ℕ → ℕ → List Row → Option Kind → Reading Placed Fault
+placed frame before [] fault = record { items = []; fault = ends_at frame (before + 1) fault }
+placed frame before (r ∷ rs) fault = with_front (record { place = place_at frame (before + 1); row = r }) (placed frame (before + 1) rs fault)
+
+abbrev pub frame_rows : ℕ → List ℕ → Reading Placed Fault
+frame_rows frame body = placed frame 0 (rows body).items (rows body).fault
+
+-- the readings of frames one after another, and then the fault behind them, which has row 0
+unfoldable pub rows_from : ℕ → List (List ℕ) → Option Kind → Reading Placed Fault
+rows_from frame [] fault = record { items = []; fault = ends_at frame 0 fault }
+rows_from frame (b ∷ bs) fault = joined (frame_rows frame b) (rows_from (frame + 1) bs fault)
+
+-- all rows of a file
+abbrev pub all_rows : List ℕ → Reading Placed Fault
+all_rows file = rows_from 1 (frames file).items (frames file).fault

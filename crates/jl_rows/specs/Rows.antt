@@ -1,0 +1,84 @@
+-- Rows (Jelly RDF serialization, "RdfStreamRow"): one field of the ones below says what a row is.
+use Rattle.std.specs.Prelude.{ℕ, zero, suc, Bool, ◌==◌, List, [], ◌∷◌, Option, Some, None, is_some, Result, Ok, Err, if◌then◌else◌}
+use Rattle.jl_base.specs.Results.{◌>>=◌, refuse_if, some_or}
+use Rattle.jl_base.specs.declared.kind.Kind.{Kind}
+use Rattle.jl_base.specs.declared.kind.Kind.TheVariants.{WrongWire, Twice, EmptyRow}
+use Rattle.jl_wire.specs.Fields.{Content, Field, fields}
+use Rattle.jl_rows.specs.Written.{Term, StreamOptions, Table, Row}
+use Rattle.jl_rows.specs.Messages.{Message}
+use Rattle.jl_rows.specs.Reading.{Parts, part, number_32, flag, text, term, ids, message, empty}
+
+unfoldable pub options : List ℕ → Result StreamOptions Kind
+options bytes = message Message.Options bytes >>= λ ps. Ok (record {
+  stream_name = text (part ps 0);
+  physical = number_32 (part ps 1);
+  generalized = flag (part ps 2);
+  star = flag (part ps 3);
+  names = number_32 (part ps 4);
+  prefixes = number_32 (part ps 5);
+  datatypes = number_32 (part ps 6);
+  logical = number_32 (part ps 7);
+  version = number_32 (part ps 8);
+})
+
+unfoldable pub triple : List ℕ → Result Row Kind
+triple bytes = message Message.Triple bytes >>= λ ps. Ok (Row.Triple (term (part ps 0)) (term (part ps 1)) (term (part ps 2)))
+
+unfoldable pub quad : List ℕ → Result Row Kind
+quad bytes = message Message.Quad bytes >>= λ ps. Ok (Row.Quad (term (part ps 0)) (term (part ps 1)) (term (part ps 2)) (term (part ps 3)))
+
+unfoldable pub graph_start : List ℕ → Result Row Kind
+graph_start bytes = message Message.GraphStart bytes >>= λ ps. Ok (Row.GraphStart (term (part ps 0)))
+
+unfoldable pub namespace : List ℕ → Result Row Kind
+namespace bytes = message Message.Namespace bytes >>= λ ps. Ok (Row.Namespace (text (part ps 0)) (ids (part ps 1)))
+
+unfoldable pub entry : Table → List ℕ → Result Row Kind
+entry table bytes = message Message.Entry bytes >>= λ ps. Ok (Row.Entry table (number_32 (part ps 0)) (text (part ps 1)))
+
+-- the kinds of rows
+pub data Sort : Type 0 where
+  Options Triple Quad GraphStart GraphEnd Namespace : Sort
+  Entry : Table → Sort
+
+-- the field numbers of the kinds
+abbrev pub sort_of : ℕ → Option Sort
+sort_of n =
+    if n == 1 then Some Sort.Options
+    else if n == 2 then Some Sort.Triple
+    else if n == 3 then Some Sort.Quad
+    else if n == 4 then Some Sort.GraphStart
+    else if n == 5 then Some Sort.GraphEnd
+    else if n == 6 then Some Sort.Namespace
+    else if n == 9 then Some (Sort.Entry Table.Name)
+    else if n == 10 then Some (Sort.Entry Table.Prefix)
+    else if n == 11 then Some (Sort.Entry Table.Datatype)
+    else None
+
+-- what a row of a kind says
+abbrev pub said_by : Sort → List ℕ → Result Row Kind
+said_by Sort.Options t = options t >>= λ o. Ok (Row.Options o)
+said_by Sort.Triple t = triple t
+said_by Sort.Quad t = quad t
+said_by Sort.GraphStart t = graph_start t
+said_by Sort.GraphEnd t = empty t >>= λ _. Ok Row.GraphEnd
+said_by Sort.Namespace t = namespace t
+said_by (Sort.Entry table) t = entry table t
+
+-- one known field of a row; all are of one group
+abbrev pub row_taken : Sort → Content → Option Row → Result (Option Row) Kind
+row_taken sort (Content.Bytes t) before = refuse_if (is_some before) Twice >>= λ _. said_by sort t >>= λ r. Ok (Some r)
+row_taken sort _ before = Err WrongWire
+
+abbrev pub row_taken_if_known : Option Sort → Content → Option Row → Result (Option Row) Kind
+row_taken_if_known None content before = Ok before
+row_taken_if_known (Some sort) content before = row_taken sort content before
+
+unfoldable pub row_walk : List Field → Option Kind → Option Row → Result (Option Row) Kind
+row_walk [] None before = Ok before
+row_walk [] (Some fault) before = Err fault
+row_walk (f ∷ fs) fault before = row_taken_if_known (sort_of f.number) f.content before >>= λ after. row_walk fs fault after
+
+-- a row's message; one without a kind is refused
+unfoldable pub row : List ℕ → Result Row Kind
+row bytes = row_walk (fields bytes).items (fields bytes).fault None >>= λ r. some_or r EmptyRow

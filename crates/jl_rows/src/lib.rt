@@ -1,0 +1,8 @@
+#![tactic(auto)]
+ghost use Rattle.std.specs.Prelude.{◌≡◌, ℕ};
+
+pub fn one() -> u64
+    ensures { result ≡ 1 }
+{
+    1
+}

@@ -1,0 +1,4 @@
+pub mod Binds
+pub mod Looks
+pub mod Following
+pub mod StepLaw

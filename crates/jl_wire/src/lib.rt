@@ -5,5 +5,7 @@
 #![tactic(auto)]
 
 mod field;
+mod number;
 
 pub use field::{Field, Value};
+pub use number::varint;

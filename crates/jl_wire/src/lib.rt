@@ -7,5 +7,5 @@
 mod field;
 mod number;
 
-pub use field::{Field, Value};
+pub use field::{Field, Value, next_field};
 pub use number::varint;

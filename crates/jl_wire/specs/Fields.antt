@@ -1,10 +1,10 @@
 -- Fields (Protocol Buffers, Encoding, "Message Structure"). A field is a tag, which is its number and its wire type, and
 -- then its content.
-use Rattle.std.specs.Prelude.{ℕ, zero, suc, ◌+◌, ◌-◌, ◌*◌, ◌/◌, ◌%◌, ◌^◌, Bool, true, false, ◌||◌, ◌==◌, List, [], ◌∷◌, length, take, drop, Option, Some, None, Result, Ok, Err, nat_lt, if◌then◌else◌}
+use Rattle.std.specs.Prelude.{ℕ, zero, suc, ◌+◌, ◌-◌, ◌/◌, ◌%◌, ◌^◌, Bool, ◌||◌, ◌==◌, List, [], ◌∷◌, length, take, drop, None, Result, Ok, Err, nat_lt, if◌then◌else◌}
 use Rattle.std.specs.Int.{Width, w32, w64, byte_len, from_le_bytes}
 use Rattle.jl_base.specs.Results.{◌>>=◌, Reading, led, with_front}
 use Rattle.jl_base.specs.declared.kind.Kind.{Kind}
-use Rattle.jl_base.specs.declared.kind.Kind.TheVariants.{Truncated, BadVarint, BadTag}
+use Rattle.jl_base.specs.declared.kind.Kind.TheVariants.{Truncated, BadTag}
 use Rattle.jl_wire.specs.Varint.{varint}
 
 pub data Content : Type 0 where

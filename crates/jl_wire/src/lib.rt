@@ -5,5 +5,7 @@
 #![tactic(auto)]
 
 mod field;
+mod number;
 
-pub use field::{Field, Value};
+pub use field::{Field, Value, next_field};
+pub use number::varint;

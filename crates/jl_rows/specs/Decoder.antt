@@ -8,7 +8,8 @@ use Rattle.jl_base.specs.declared.kind.Kind.{Kind}
 use Rattle.jl_base.specs.declared.kind.Kind.TheVariants.{NoOptions, BadOptions, TableTooLarge, OptionsDiffer, WrongRow, BadEntry, NoTerm, NoGraph, GraphOpen}
 use Rattle.jl_base.specs.declared.place.Place.{Place}
 use Rattle.jl_base.specs.declared.place.Fault.{Fault}
-use Rattle.jl_rows.specs.Written.{Ids, Term, StreamOptions, Table, Row}
+use Rattle.jl_rows.specs.declared.row.Table.{Table}
+use Rattle.jl_rows.specs.Written.{Ids, Term, StreamOptions, Row}
 use Rattle.jl_rows.specs.Files.{Placed, all_rows}
 use Rattle.jl_rows.specs.History.{History, entry_id, seen_in}
 use Rattle.jl_rows.specs.Values.{Position, value, value_in, iri_text, slots_of, last_term, open_graph, set_by, is_unset}

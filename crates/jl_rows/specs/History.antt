@@ -2,7 +2,8 @@
 -- and "Prefix and name lookup"). A history is these rows, the newest first.
 use Rattle.std.specs.Prelude.{ℕ, zero, suc, ◌+◌, Bool, true, false, ◌==◌, ◌&&◌, List, [], ◌∷◌, ◌++◌, map, reverse, filter_map, Option, Some, None, nat_lt, if◌then◌else◌}
 use Rattle.std.specs.Option.{option_or}
-use Rattle.jl_rows.specs.Written.{Ids, Term, Table, Row}
+use Rattle.jl_rows.specs.declared.row.Table.{Table}
+use Rattle.jl_rows.specs.Written.{Ids, Term, Row}
 
 abbrev pub History : Type 0
 History = List Row

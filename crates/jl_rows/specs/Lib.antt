@@ -3,6 +3,7 @@ pub mod Messages
 pub mod Reading
 pub mod Rows
 pub mod Files
+pub mod Seen
 pub mod History
 pub mod Values
 pub mod Decoder

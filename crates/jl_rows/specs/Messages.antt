@@ -1,21 +1,10 @@
 -- The messages of the format, as lists of their known fields (the schema rdf.proto of the Jelly RDF serialization).
+use Rattle.jl_rows.specs.declared.message.Message.{Message}
+use Rattle.jl_rows.specs.declared.message.Shape.{Shape}
+use Rattle.jl_rows.specs.declared.message.Known.{Known}
 use Rattle.std.specs.Prelude.{ℕ, Bool, ◌==◌, List, [], ◌∷◌, ◌++◌, find, Option}
 
--- The messages that stand in a row, and those that stand in them. A statement is a triple or a quad.
-pub data Message : Type 0 where
-  Options Triple Quad GraphStart Namespace Entry Iri Literal Empty : Message
-
--- what a known field holds: a number, a text, or one of the forms of a term
-pub data Shape : Type 0 where
-  Number Text Iri Label Literal Nested Default : Shape
-
--- A known field: its number, what it holds, and its group. Fields of one group exclude each other; a field that is in no
--- 'one of' is a group of its own.
-pub record Known : Type 0 where
-  pub number : ℕ
-  pub shape : Shape
-  pub group : ℕ
-
+-- a known field: its number, what it holds, and its group
 abbrev pub known : ℕ → Shape → ℕ → Known
 known n s g = record { number = n; shape = s; group = g }
 
@@ -30,6 +19,7 @@ triple =
 abbrev pub graph : List Known
 graph = known 13 Shape.Iri 3 ∷ known 14 Shape.Label 3 ∷ known 15 Shape.Default 3 ∷ known 16 Shape.Literal 3 ∷ []
 
+-- The known fields of a message. Fields of one group exclude each other; a field in no 'one of' is a group of its own.
 abbrev pub table : Message → List Known
 table Message.Iri = known 1 Shape.Number 0 ∷ known 2 Shape.Number 1 ∷ []
 table Message.Literal = known 1 Shape.Text 0 ∷ known 2 Shape.Text 1 ∷ known 3 Shape.Number 1 ∷ []

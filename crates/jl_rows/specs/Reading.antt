@@ -7,7 +7,10 @@ use Rattle.jl_base.specs.declared.kind.Kind.{Kind}
 use Rattle.jl_base.specs.declared.kind.Kind.TheVariants.{WrongWire, Twice, BadUtf8, TooDeep}
 use Rattle.jl_wire.specs.Fields.{Content, Field, fields}
 use Rattle.jl_rows.specs.Written.{Ids, Ending, Term}
-use Rattle.jl_rows.specs.Messages.{Message, Shape, Known, known_as, groups}
+use Rattle.jl_rows.specs.Messages.{known_as, groups}
+use Rattle.jl_rows.specs.declared.message.Message.{Message}
+use Rattle.jl_rows.specs.declared.message.Shape.{Shape}
+use Rattle.jl_rows.specs.declared.message.Known.{Known}
 
 -- what a known field says
 pub data Part : Type 0 where

@@ -4,8 +4,9 @@ use Rattle.jl_base.specs.Results.{◌>>=◌, refuse_if, some_or}
 use Rattle.jl_base.specs.declared.kind.Kind.{Kind}
 use Rattle.jl_base.specs.declared.kind.Kind.TheVariants.{WrongWire, Twice, EmptyRow}
 use Rattle.jl_wire.specs.Fields.{Content, Field, fields}
-use Rattle.jl_rows.specs.Written.{Term, StreamOptions, Table, Row}
-use Rattle.jl_rows.specs.Messages.{Message}
+use Rattle.jl_rows.specs.declared.row.Table.{Table}
+use Rattle.jl_rows.specs.Written.{Term, StreamOptions, Row}
+use Rattle.jl_rows.specs.declared.message.Message.{Message}
 use Rattle.jl_rows.specs.Reading.{Parts, part, number_32, flag, text, term, ids, message, empty}
 
 unfoldable pub options : List ℕ → Result StreamOptions Kind

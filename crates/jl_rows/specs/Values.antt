@@ -6,7 +6,8 @@ use Rattle.jl_base.specs.Results.{◌>>=◌, refuse_if, some_or, answered}
 use Rattle.jl_base.specs.Terms.{Tail, Value}
 use Rattle.jl_base.specs.declared.kind.Kind.{Kind}
 use Rattle.jl_base.specs.declared.kind.Kind.TheVariants.{NoEntry, NoTerm, BadLangtag}
-use Rattle.jl_rows.specs.Written.{Ids, Ending, Term, Table, Row}
+use Rattle.jl_rows.specs.declared.row.Table.{Table}
+use Rattle.jl_rows.specs.Written.{Ids, Ending, Term, Row}
 use Rattle.jl_rows.specs.History.{History, slot, seen_after, seen_in, prefix_id, name_id}
 
 -- The slots of the lookup tables: what each id stands for. No entry has the id 0.

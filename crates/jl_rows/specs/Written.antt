@@ -1,5 +1,6 @@
 -- Terms, options and rows as a file writes them (Jelly RDF serialization, "RdfStreamRow" and the messages in it): ids in
 -- place of texts that lookup tables hold. A text is its bytes.
+use Rattle.jl_rows.specs.declared.row.Table.{Table}
 use Rattle.std.specs.Prelude.{ℕ, Bool, List, Option}
 
 -- an IRI by the ids of its prefix and its name, 0 where they are left to the rule for 0
@@ -32,10 +33,6 @@ pub record StreamOptions : Type 0 where
   pub datatypes : ℕ
   pub logical : ℕ
   pub version : ℕ
-
--- the three lookup tables
-pub data Table : Type 0 where
-  Name Prefix Datatype : Table
 
 pub data Row : Type 0 where
   Options : StreamOptions → Row

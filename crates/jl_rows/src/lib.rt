@@ -1,8 +1,15 @@
+//! Frames, messages and rows of a Jelly file, read in place: what a row says, by ids and by where its texts lie.
+//!
+//! It promises that the next row, the terms of a triple term and the head of a file are exactly the definitions, with
+//! the first fault in the order of the bytes, without memory. Its specs are the definitions of the whole format: of
+//! messages, rows, histories and the decoder. It stands on jl_wire and jl_base.
 #![tactic(auto)]
-ghost use Rattle.std.specs.Prelude.{◌≡◌, ℕ};
 
-pub fn one() -> u64
-    ensures { result ≡ 1 }
-{
-    1
-}
+mod message;
+mod options;
+mod read;
+mod row;
+
+pub use message::{Known, Message, Shape};
+pub use options::{Options, Physical};
+pub use row::{RawIri, RawQuad, RawTail, RawTerm, RawTriple, Row, Table};

@@ -108,16 +108,23 @@ literal bytes = read plain Message.Literal bytes >>= λ ps. Ok (Term.Literal (te
 unfoldable pub empty : List ℕ → Result Term Kind
 empty bytes = read plain Message.Empty bytes >>= λ ps. Ok Term.Default
 
--- The content of a term, or of a number or a text, where so many triple terms may stand one in another.
+-- the content of a number, a text, or a term that isn't a triple term
+abbrev pub shallow : Shape → Content → Result Part Kind
+shallow Shape.Iri (Content.Bytes t) = iri t >>= λ i. Ok (Part.Said (Term.Iri i))
+shallow Shape.Label (Content.Bytes t) = string t >>= λ s. Ok (Part.Said (Term.Bnode s))
+shallow Shape.Literal (Content.Bytes t) = literal t >>= λ l. Ok (Part.Said l)
+shallow Shape.Default (Content.Bytes t) = empty t >>= λ d. Ok (Part.Said d)
+shallow shape content = plain shape content
+
+-- a triple term, by what its groups say
+abbrev pub nested : Parts → Term
+nested ps = Term.Nested (term (part ps 0)) (term (part ps 1)) (term (part ps 2))
+
+-- The content of a known field, where so many triple terms may stand one in another.
 unfoldable pub content_said : ℕ → Shape → Content → Result Part Kind
-content_said depth Shape.Iri (Content.Bytes t) = iri t >>= λ i. Ok (Part.Said (Term.Iri i))
-content_said depth Shape.Label (Content.Bytes t) = string t >>= λ s. Ok (Part.Said (Term.Bnode s))
-content_said depth Shape.Literal (Content.Bytes t) = literal t >>= λ l. Ok (Part.Said l)
-content_said depth Shape.Default (Content.Bytes t) = empty t >>= λ d. Ok (Part.Said d)
 content_said zero Shape.Nested (Content.Bytes t) = Err TooDeep
-content_said (suc depth) Shape.Nested (Content.Bytes t) =
-    read (content_said depth) Message.Triple t >>= λ ps. Ok (Part.Said (Term.Nested (term (part ps 0)) (term (part ps 1)) (term (part ps 2))))
-content_said depth shape content = plain shape content
+content_said (suc depth) Shape.Nested (Content.Bytes t) = read (content_said depth) Message.Triple t >>= λ ps. Ok (Part.Said (nested ps))
+content_said depth shape content = shallow shape content
 
 -- triple terms stand at most 32 deep
 abbrev pub most_nested : ℕ

@@ -1,5 +1,5 @@
 -- What the code's rows and parts stand for: their texts in place of where these lie.
-use Rattle.std.specs.Prelude.{◌≡◌, ℕ, ◌+◌, ◌≤◌, List, map, length, Option, Some, None, Result, Ok, Err}
+use Rattle.std.specs.Prelude.{◌≡◌, ℕ, ◌+◌, ◌≤◌, List, map, length, slice_index_or, Option, Some, None, Result, Ok, Err}
 use Rattle.std.specs.Option.{option_map}
 use Rattle.jl_base.specs.Spans.{text_of, IsInside}
 use Rattle.jl_base.specs.declared.place.Span.{Span}
@@ -22,6 +22,7 @@ use Rattle.jl_rows.specs.declared.read.Part.TheVariants as parts
 use Rattle.jl_rows.specs.Written as written
 use Rattle.jl_rows.specs.Reading as reading
 use Rattle.jl_rows.specs.Reading.{content_said, most_nested}
+use Rattle.jl_rows.specs.Messages.{groups}
 
 abbrev pub ids_seen : RawIri → written.Ids
 ids_seen i = record { prefix = i.prefix; name = i.name }
@@ -84,3 +85,55 @@ maybe_seen bytes p = option_map (part_seen bytes) p
 
 abbrev pub parts_seen : List ℕ → List (Option Part) → reading.Parts
 parts_seen bytes ps = map (maybe_seen bytes) ps
+
+-- What the code knows of where texts lie: inside the bytes.
+abbrev pub HasTail : List ℕ → RawTail → Type 0
+HasTail bytes tails.Simple = Unit {0}
+HasTail bytes (tails.Lang span) = IsInside bytes span
+HasTail bytes (tails.Typed id) = Unit {0}
+
+abbrev pub HasTerm : List ℕ → RawTerm → Type 0
+HasTerm bytes (terms.Iri i) = Unit {0}
+HasTerm bytes (terms.Bnode span) = IsInside bytes span
+HasTerm bytes (terms.Literal lex tail) = IsInside bytes lex × HasTail bytes tail
+HasTerm bytes (terms.Triple span) = IsInside bytes span
+HasTerm bytes terms.Default = Unit {0}
+
+abbrev pub HasPosition : List ℕ → Option RawTerm → Type 0
+HasPosition bytes None = Unit {0}
+HasPosition bytes (Some t) = HasTerm bytes t
+
+abbrev pub HasTriple : List ℕ → RawTriple → Type 0
+HasTriple bytes t = HasPosition bytes t.s × HasPosition bytes t.p × HasPosition bytes t.o
+
+abbrev pub HasRow : List ℕ → Row → Type 0
+HasRow bytes (rows.Options o) = IsInside bytes o.stream_name
+HasRow bytes (rows.Triple t) = HasTriple bytes t
+HasRow bytes (rows.Quad t) = HasPosition bytes t.s × HasPosition bytes t.p × HasPosition bytes t.o × HasPosition bytes t.g
+HasRow bytes (rows.GraphStart g) = HasPosition bytes g
+HasRow bytes rows.GraphEnd = Unit {0}
+HasRow bytes (rows.Namespace name iri) = IsInside bytes name
+HasRow bytes (rows.Entry table id text) = IsInside bytes text
+
+abbrev pub HasValue : List ℕ → Value → Type 0
+HasValue bytes (values.Bytes span) = IsInside bytes span
+HasValue bytes _ = Unit {0}
+
+abbrev pub HasPart : List ℕ → Part → Type 0
+HasPart bytes (parts.Number n) = Unit {0}
+HasPart bytes (parts.Text span) = IsInside bytes span
+HasPart bytes (parts.Said t) = HasTerm bytes t
+
+abbrev pub HasMaybe : List ℕ → Option Part → Type 0
+HasMaybe bytes None = Unit {0}
+HasMaybe bytes (Some p) = HasPart bytes p
+
+-- What a reader of parts knows of the groups: as many as there may be, each inside the bytes.
+pub record HasParts (bytes : List ℕ) (ps : List (Option Part)) : Type 0 where
+  pub count : length ps ≡ groups
+  pub each : (g : ℕ) → HasMaybe bytes (slice_index_or ps g None)
+
+-- A step on the groups answers what the definition says of them.
+abbrev pub Takes : List ℕ → Result reading.Parts Kind → List (Option Part) → Result (Unit {0}) Kind → Type 0
+Takes bytes said after (Ok _) = said ≡ Ok (parts_seen bytes after)
+Takes bytes said after (Err k) = said ≡ Err k

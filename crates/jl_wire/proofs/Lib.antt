@@ -1,3 +1,5 @@
+pub mod AsciiRuns
 pub mod FieldSteps
 pub mod Ranges
+pub mod Texts
 pub mod VarintSteps

@@ -1,4 +1,6 @@
 pub mod AsciiRuns
+pub mod Bound
+pub mod FieldLaws
 pub mod FieldSteps
 pub mod Ranges
 pub mod Texts

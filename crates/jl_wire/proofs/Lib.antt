@@ -1,3 +1,7 @@
+pub mod AsciiRuns
+pub mod Bound
+pub mod FieldLaws
 pub mod FieldSteps
 pub mod Ranges
+pub mod Texts
 pub mod VarintSteps

@@ -6,6 +6,8 @@
 
 mod field;
 mod number;
+mod text;
 
 pub use field::{Field, Value, next_field};
 pub use number::varint;
+pub use text::utf8;

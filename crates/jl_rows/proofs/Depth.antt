@@ -9,7 +9,7 @@ use Rattle.jl_rows.specs.declared.message.Shape.{Shape}
 use Rattle.jl_rows.specs.declared.message.Known.{Known}
 use Rattle.jl_rows.specs.Written.{Term}
 use Rattle.jl_rows.specs.Messages.{known_as}
-use Rattle.jl_rows.specs.Reading.{Part, Parts, part, term, is_wrong_wire, taken, taken_if_known, walk, read, content_said, nothing_said}
+use Rattle.jl_rows.specs.Reading.{Part, Parts, part, term, is_wrong_wire, taken, taken_if_known, walk, read, read_on, content_said, nothing_said}
 use Rattle.jl_rows.proofs.Binding.{Bound, bound}
 
 abbrev pub Says : Type 0
@@ -44,7 +44,7 @@ walk_more f g more m (x ∷ fs) fault ps qs e =
       (λ rs h. maybe_more f g more (known_as m x.number) x.content ps rs h) (λ rs h. walk_more f g more m fs fault rs qs h) e
 
 read_more : (f g : Says) → AtLeast f g → (m : Message) (bytes : List ℕ) (qs : Parts) → read f m bytes ≡ Ok qs → read g m bytes ≡ Ok qs
-unfolding read
+unfolding read_on
 read_more f g more m bytes qs e = walk_more f g more m (fields bytes).items (fields bytes).fault nothing_said qs e
 
 -- one deeper

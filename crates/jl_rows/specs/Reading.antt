@@ -85,8 +85,12 @@ walk says m (f ∷ fs) fault ps = taken_if_known says (known_as m f.number) f.co
 abbrev pub nothing_said : Parts
 nothing_said = replicate groups None
 
-unfoldable pub read : (Shape → Content → Result Part Kind) → Message → List ℕ → Result Parts Kind
-read says m bytes = walk says m (fields bytes).items (fields bytes).fault nothing_said
+-- a message, or the rest of one behind what its groups said so far
+unfoldable pub read_on : (Shape → Content → Result Part Kind) → Message → Parts → List ℕ → Result Parts Kind
+read_on says m ps bytes = walk says m (fields bytes).items (fields bytes).fault ps
+
+abbrev pub read : (Shape → Content → Result Part Kind) → Message → List ℕ → Result Parts Kind
+read says m bytes = read_on says m nothing_said bytes
 
 -- a string is UTF-8
 abbrev pub string : List ℕ → Result (List ℕ) Kind

@@ -1,13 +1,16 @@
 -- What the code's rows and parts stand for: their texts in place of where these lie.
-use Rattle.std.specs.Prelude.{◌≡◌, ℕ, ◌+◌, ◌≤◌, List, map, length, slice_index_or, Option, Some, None, Result, Ok, Err}
+use Rattle.std.specs.Prelude.{◌≡◌, ℕ, ◌+◌, ◌≤◌, List, map, length, slice_index_or, Option, Some, None, is_some, Result, Ok, Err, false}
 use Rattle.std.specs.Option.{option_map}
 use Rattle.jl_base.specs.Spans.{text_of, IsInside}
 use Rattle.jl_base.specs.declared.place.Span.{Span}
 use Rattle.jl_base.specs.declared.kind.Kind.{Kind}
-use Rattle.jl_wire.specs.Fields.{Content}
+use Rattle.jl_base.specs.Results.{◌>>=◌, refuse_if}
+use Rattle.jl_base.specs.declared.kind.Kind.TheVariants.{WrongWire, Twice}
+use Rattle.jl_wire.specs.Seen.{content_seen}
+use Rattle.jl_rows.specs.declared.message.Known.{Known}
 use Rattle.jl_wire.specs.declared.field.Value.{Value}
 use Rattle.jl_wire.specs.declared.field.Value.TheVariants as values
-use Rattle.jl_rows.specs.declared.message.Shape.{Shape}
+use Rattle.jl_rows.specs.declared.message.Message.{Message}
 use Rattle.jl_rows.specs.declared.options.Options.{Options}
 use Rattle.jl_rows.specs.declared.row.RawIri.{RawIri}
 use Rattle.jl_rows.specs.declared.row.RawTail.{RawTail}
@@ -21,7 +24,7 @@ use Rattle.jl_rows.specs.declared.read.Part.{Part}
 use Rattle.jl_rows.specs.declared.read.Part.TheVariants as parts
 use Rattle.jl_rows.specs.Written as written
 use Rattle.jl_rows.specs.Reading as reading
-use Rattle.jl_rows.specs.Reading.{content_said, most_nested}
+use Rattle.jl_rows.specs.Reading.{content_said}
 use Rattle.jl_rows.specs.Messages.{groups}
 
 abbrev pub ids_seen : RawIri → written.Ids
@@ -32,16 +35,20 @@ ending_seen bytes tails.Simple = written.Simple
 ending_seen bytes (tails.Lang span) = written.Lang (text_of bytes span)
 ending_seen bytes (tails.Typed id) = written.Typed id
 
--- the triple term that a message says, with terms unset where it can't be read
-abbrev pub nested_said : Result reading.Part Kind → written.Term
-nested_said (Ok (reading.Said t)) = t
-nested_said _ = written.Nested written.Unset written.Unset written.Unset
+-- what a message says, or nothing where it can't be read
+abbrev pub parts_or_none : Result reading.Parts Kind → reading.Parts
+parts_or_none (Ok ps) = ps
+parts_or_none (Err k) = reading.nothing_said
+
+-- the triple term that these bytes say; in it 31 more may stand one in another
+abbrev pub nested_at : List ℕ → written.Term
+nested_at text = reading.nested (parts_or_none (reading.read (content_said 31) Message.Triple text))
 
 abbrev pub term_seen : List ℕ → RawTerm → written.Term
 term_seen bytes (terms.Iri i) = written.Iri (ids_seen i)
 term_seen bytes (terms.Bnode span) = written.Bnode (text_of bytes span)
 term_seen bytes (terms.Literal lex tail) = written.Literal (text_of bytes lex) (ending_seen bytes tail)
-term_seen bytes (terms.Triple span) = nested_said (content_said most_nested Shape.Nested (Content.Bytes (text_of bytes span)))
+term_seen bytes (terms.Triple span) = nested_at (text_of bytes span)
 term_seen bytes terms.Default = written.Default
 
 -- a position of a row
@@ -137,3 +144,10 @@ pub record HasParts (bytes : List ℕ) (ps : List (Option Part)) : Type 0 where
 abbrev pub Takes : List ℕ → Result reading.Parts Kind → List (Option Part) → Result (Unit {0}) Kind → Type 0
 Takes bytes said after (Ok _) = said ≡ Ok (parts_seen bytes after)
 Takes bytes said after (Err k) = said ≡ Err k
+
+-- The first two checks of a known field: its group, where both pass.
+abbrev pub IsFree : List ℕ → Known → Value → List (Option Part) → Result ℕ Kind → Type 0
+IsFree bytes k value ps (Ok group) = (reading.is_wrong_wire k.shape (content_seen bytes value) ≡ false) × (is_some (reading.part (parts_seen bytes ps) k.group) ≡ false) × (group ≡ k.group)
+IsFree bytes k value ps (Err kind) = (do
+  _ ← refuse_if (reading.is_wrong_wire k.shape (content_seen bytes value)) WrongWire
+  refuse_if (is_some (reading.part (parts_seen bytes ps) k.group)) Twice) ≡ Err kind

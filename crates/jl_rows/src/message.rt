@@ -1,6 +1,6 @@
 //! The table of messages: which fields each has, what they hold, and which exclude each other.
-ghost use Rattle.std.specs.Prelude.{◌≡◌};
-ghost use Rattle.jl_rows.specs.Messages.{known, known_as};
+ghost use Rattle.std.specs.Prelude.{◌≡◌, ◌<◌, IfSome};
+ghost use Rattle.jl_rows.specs.Messages.{groups, known, known_as};
 
 /// The messages that stand in a row, and those that stand in them.
 #[derive(Clone, Copy, Debug, PartialEq, Eq)]
@@ -40,7 +40,8 @@ pub struct Known {
 impl Message {
     /// The known field of this number, where the message has one.
     pub fn known_as(self, number: u32) -> Option<Known>
-        ensures { result ≡ known_as self number }
+        ensures exact { result ≡ known_as self number }
+        ensures small { IfSome result (λ k. k.group < groups) }
     {
         match self {
             Message::Iri => iri(number),
@@ -57,7 +58,9 @@ impl Message {
 }
 
 fn some(number: u32, shape: Shape, group: usize) -> Option<Known>
-    ensures { result ≡ Some (known number shape group) }
+    requires { group < groups }
+    ensures exact { result ≡ Some (known number shape group) }
+    ensures small { IfSome result (λ k. k.group < groups) }
 {
     Some(Known {
         number,
@@ -67,7 +70,8 @@ fn some(number: u32, shape: Shape, group: usize) -> Option<Known>
 }
 
 fn iri(number: u32) -> Option<Known>
-    ensures { result ≡ known_as Message.Iri number }
+    ensures exact { result ≡ known_as Message.Iri number }
+    ensures small { IfSome result (λ k. k.group < groups) }
 {
     match number {
         1 => some(1, Shape::Number, 0),
@@ -77,7 +81,8 @@ fn iri(number: u32) -> Option<Known>
 }
 
 fn literal(number: u32) -> Option<Known>
-    ensures { result ≡ known_as Message.Literal number }
+    ensures exact { result ≡ known_as Message.Literal number }
+    ensures small { IfSome result (λ k. k.group < groups) }
 {
     match number {
         1 => some(1, Shape::Text, 0),
@@ -88,7 +93,8 @@ fn literal(number: u32) -> Option<Known>
 }
 
 fn triple(number: u32) -> Option<Known>
-    ensures { result ≡ known_as Message.Triple number }
+    ensures exact { result ≡ known_as Message.Triple number }
+    ensures small { IfSome result (λ k. k.group < groups) }
 {
     match number {
         1 => some(1, Shape::Iri, 0),
@@ -108,7 +114,8 @@ fn triple(number: u32) -> Option<Known>
 }
 
 fn quad(number: u32) -> Option<Known>
-    ensures { result ≡ known_as Message.Quad number }
+    ensures exact { result ≡ known_as Message.Quad number }
+    ensures small { IfSome result (λ k. k.group < groups) }
 {
     match number {
         1 => some(1, Shape::Iri, 0),
@@ -132,7 +139,8 @@ fn quad(number: u32) -> Option<Known>
 }
 
 fn graph_start(number: u32) -> Option<Known>
-    ensures { result ≡ known_as Message.GraphStart number }
+    ensures exact { result ≡ known_as Message.GraphStart number }
+    ensures small { IfSome result (λ k. k.group < groups) }
 {
     match number {
         1 => some(1, Shape::Iri, 0),
@@ -144,7 +152,8 @@ fn graph_start(number: u32) -> Option<Known>
 }
 
 fn namespace(number: u32) -> Option<Known>
-    ensures { result ≡ known_as Message.Namespace number }
+    ensures exact { result ≡ known_as Message.Namespace number }
+    ensures small { IfSome result (λ k. k.group < groups) }
 {
     match number {
         1 => some(1, Shape::Text, 0),
@@ -154,7 +163,8 @@ fn namespace(number: u32) -> Option<Known>
 }
 
 fn entry(number: u32) -> Option<Known>
-    ensures { result ≡ known_as Message.Entry number }
+    ensures exact { result ≡ known_as Message.Entry number }
+    ensures small { IfSome result (λ k. k.group < groups) }
 {
     match number {
         1 => some(1, Shape::Number, 0),
@@ -164,7 +174,8 @@ fn entry(number: u32) -> Option<Known>
 }
 
 fn options(number: u32) -> Option<Known>
-    ensures { result ≡ known_as Message.Options number }
+    ensures exact { result ≡ known_as Message.Options number }
+    ensures small { IfSome result (λ k. k.group < groups) }
 {
     match number {
         1 => some(1, Shape::Text, 0),

@@ -43,7 +43,7 @@ walk_more f g more m (x ∷ fs) fault ps qs e =
     bind_more (taken_if_known f (known_as m x.number) x.content ps) (taken_if_known g (known_as m x.number) x.content ps) _ _ qs
       (λ rs h. maybe_more f g more (known_as m x.number) x.content ps rs h) (λ rs h. walk_more f g more m fs fault rs qs h) e
 
-read_more : (f g : Says) → AtLeast f g → (m : Message) (bytes : List ℕ) (qs : Parts) → read f m bytes ≡ Ok qs → read g m bytes ≡ Ok qs
+pub read_more : (f g : Says) → AtLeast f g → (m : Message) (bytes : List ℕ) (qs : Parts) → read f m bytes ≡ Ok qs → read g m bytes ≡ Ok qs
 unfolding read_on
 read_more f g more m bytes qs e = walk_more f g more m (fields bytes).items (fields bytes).fault nothing_said qs e
 

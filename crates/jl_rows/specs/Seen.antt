@@ -11,6 +11,7 @@ use Rattle.jl_rows.specs.declared.message.Known.{Known}
 use Rattle.jl_wire.specs.declared.field.Value.{Value}
 use Rattle.jl_wire.specs.declared.field.Value.TheVariants as values
 use Rattle.jl_rows.specs.declared.message.Message.{Message}
+use Rattle.jl_rows.specs.declared.message.Shape.{Shape}
 use Rattle.jl_rows.specs.declared.options.Options.{Options}
 use Rattle.jl_rows.specs.declared.row.RawIri.{RawIri}
 use Rattle.jl_rows.specs.declared.row.RawTail.{RawTail}
@@ -151,3 +152,8 @@ IsFree bytes k value ps (Ok group) = (reading.is_wrong_wire k.shape (content_see
 IsFree bytes k value ps (Err kind) = (do
   _ ← refuse_if (reading.is_wrong_wire k.shape (content_seen bytes value)) WrongWire
   refuse_if (is_some (reading.part (parts_seen bytes ps) k.group)) Twice) ≡ Err kind
+
+-- where a triple term's message lies, where the field is one
+abbrev pub nested_span : Shape → Value → Option Span
+nested_span Shape.Nested (values.Bytes span) = Some span
+nested_span _ _ = None

@@ -6,7 +6,7 @@ ghost use Rattle.jl_base.specs.Spans.{IsInside, text_of};
 ghost use Rattle.jl_wire.specs.Seen.{content_seen};
 ghost use Rattle.jl_rows.specs.Messages as table;
 ghost use Rattle.jl_rows.specs.Reading as spec;
-ghost use Rattle.jl_rows.specs.Seen.{ids_seen, term_seen, part_seen, maybe_seen, parts_seen, position_seen, ending_seen, HasTail, HasTerm, HasValue, HasPart, HasParts, HasMaybe, HasPosition, IsFree, Takes};
+ghost use Rattle.jl_rows.specs.Seen.{ids_seen, term_seen, part_seen, maybe_seen, parts_seen, position_seen, ending_seen, HasTail, HasTerm, HasValue, HasPart, HasParts, HasMaybe, HasPosition, IsFree, Takes, nested_span};
 
 
 use crate::message::{Known, Message, Shape};
@@ -30,8 +30,8 @@ pub const GROUPS: usize = 9;
 pub type Parts = [Option<Part>; GROUPS];
 
 // A number's low 32 bits, or 0 where none stands.
-pub fn number(part: Option<Part>) -> u32
-    ensures { (bytes : List ℕ) → result ≡ spec.number_32 (maybe_seen bytes part) }
+pub fn number(bytes: &[u8], part: Option<Part>) -> u32
+    ensures { result ≡ spec.number_32 (maybe_seen bytes.now part) }
 {
     match part {
         Some(Part::Number(n)) => (n % 4_294_967_296) as u32,
@@ -40,8 +40,8 @@ pub fn number(part: Option<Part>) -> u32
 }
 
 // Whether a number stands that isn't 0.
-pub fn flag(part: Option<Part>) -> bool
-    ensures { (bytes : List ℕ) → result ≡ spec.flag (maybe_seen bytes part) }
+pub fn flag(bytes: &[u8], part: Option<Part>) -> bool
+    ensures { result ≡ spec.flag (maybe_seen bytes.now part) }
 {
     match part {
         Some(Part::Number(n)) => n != 0,
@@ -74,8 +74,8 @@ pub fn term(bytes: &[u8], part: Option<Part>) -> Option<RawTerm>
 }
 
 // An IRI's ids, where an IRI stands.
-pub fn ids(part: Option<Part>) -> Option<RawIri>
-    ensures { (bytes : List ℕ) → option_map ids_seen result ≡ spec.ids (maybe_seen bytes part) }
+pub fn ids(bytes: &[u8], part: Option<Part>) -> Option<RawIri>
+    ensures { option_map ids_seen result ≡ spec.ids (maybe_seen bytes.now part) }
 {
     match part {
         Some(Part::Said(RawTerm::Iri(i))) => Some(i),
@@ -184,6 +184,135 @@ fn read_plain(bytes: &[u8], at: usize, end: usize, m: Message) -> Result<Parts, 
     let mut place = at;
     'fields: while let Some(field) = next_field(bytes, place, end)? {
         take_plain(bytes, m, field, &mut found)?;
+        place = field.next;
+    }
+    Ok(found)
+}
+
+// An IRI's message.
+#[tactic(auto, unfolding(crate::specs::Reading::iri))]
+fn iri(bytes: &[u8], span: Span) -> Result<RawIri, Kind>
+    requires { IsInside bytes.now span }
+    ensures { Gives ids_seen result (spec.iri (text_of bytes.now span)) }
+{
+    let at = span.at as usize;
+    let found = read_plain(bytes, at, at + span.len as usize, Message::Iri)?;
+    Ok(RawIri {
+        prefix: number(bytes, found[0]),
+        name: number(bytes, found[1]),
+    })
+}
+
+// A literal's message.
+#[tactic(auto, unfolding(crate::specs::Reading::literal))]
+fn literal(bytes: &[u8], span: Span) -> Result<RawTerm, Kind>
+    requires { IsInside bytes.now span }
+    ensures exact { Gives (term_seen bytes.now) result (spec.literal (text_of bytes.now span)) }
+    ensures inside { IfOk result (HasTerm bytes.now) }
+{
+    let at = span.at as usize;
+    let found = read_plain(bytes, at, at + span.len as usize, Message::Literal)?;
+    Ok(RawTerm::Literal {
+        lex: text(bytes, found[0]),
+        tail: ending(bytes, found[1]),
+    })
+}
+
+// A message without known fields.
+#[tactic(auto, unfolding(crate::specs::Reading::empty))]
+pub fn empty(bytes: &[u8], span: Span) -> Result<RawTerm, Kind>
+    requires { IsInside bytes.now span }
+    ensures exact { Gives (term_seen bytes.now) result (spec.empty (text_of bytes.now span)) }
+    ensures inside { IfOk result (HasTerm bytes.now) }
+{
+    let at = span.at as usize;
+    read_plain(bytes, at, at + span.len as usize, Message::Empty)?;
+    Ok(RawTerm::Default)
+}
+
+// The content of a number, a text, or a term that isn't a triple term.
+fn shallow(bytes: &[u8], shape: Shape, value: Value) -> Result<Part, Kind>
+    requires { HasValue bytes.now value }
+    ensures exact { Gives (part_seen bytes.now) result (spec.shallow shape (content_seen bytes.now value)) }
+    ensures inside { IfOk result (HasPart bytes.now) }
+{
+    let Value::Bytes(span) = value else {
+        return plain(bytes, shape, value);
+    };
+    match shape {
+        Shape::Iri => Ok(Part::Said(RawTerm::Iri(iri(bytes, span)?))),
+        Shape::Label => Ok(Part::Said(RawTerm::Bnode(string(bytes, span)?))),
+        Shape::Literal => Ok(Part::Said(literal(bytes, span)?)),
+        Shape::Default => Ok(Part::Said(empty(bytes, span)?)),
+        _ => plain(bytes, shape, value),
+    }
+}
+
+// Where a triple term's message lies, where the field is one.
+fn nested_span(shape: Shape, value: Value) -> Option<Span>
+    ensures { result ≡ nested_span shape value }
+{
+    match value {
+        Value::Bytes(span) => match shape {
+            Shape::Nested => Some(span),
+            _ => None,
+        },
+        _ => None,
+    }
+}
+
+// The content of a known field, where so many triple terms may stand one in another.
+#[cycle(reader)]
+fn content(bytes: &[u8], shape: Shape, value: Value, depth: u32) -> Result<Part, Kind>
+    requires value { HasValue bytes.now value }
+    requires depth { depth ≤ spec.most_nested }
+    ensures exact { Gives (part_seen bytes.now) result (spec.content_said depth shape (content_seen bytes.now value)) }
+    ensures inside { IfOk result (HasPart bytes.now) }
+{
+    let Some(span) = nested_span(shape, value) else {
+        return shallow(bytes, shape, value);
+    };
+    if depth == 0 {
+        return Err(Kind::TooDeep);
+    }
+    let at = span.at as usize;
+    read(bytes, at, at + span.len as usize, Message::Triple, depth - 1)?;
+    Ok(Part::Said(RawTerm::Triple(span)))
+}
+
+// One field of a message.
+#[cycle(reader)]
+fn take(bytes: &[u8], m: Message, field: Field, depth: u32, found: &mut Parts) -> Result<(), Kind>
+    requires value { HasValue bytes.now field.value }
+    requires depth { depth ≤ spec.most_nested }
+    requires parts { HasParts bytes.now found.old }
+    ensures exact { Takes bytes.now (spec.taken_if_known (spec.content_said depth) (table.known_as m field.number)
+        (content_seen bytes.now field.value) (parts_seen bytes.now found.old)) found.new result }
+    ensures parts { OnOk result (HasParts bytes.now found.new) }
+{
+    let Some(known) = m.known_as(field.number) else {
+        return Ok(());
+    };
+    let group = free_group(known, field.value, found)?;
+    let part = content(bytes, known.shape, field.value, depth)?;
+    found[group] = Some(part);
+    Ok(())
+}
+
+/// The groups of a message that lies up to `end`, where so many triple terms may stand one in another.
+#[cycle(reader)]
+pub fn read(bytes: &[u8], at: usize, end: usize, m: Message, depth: u32) -> Result<Parts, Kind>
+    requires start { at ≤ end }
+    requires inside { end ≤ length bytes.now }
+    requires short { end - at < 2 ^ 32 }
+    requires depth { depth ≤ spec.most_nested }
+    ensures exact { Gives (parts_seen bytes.now) result (spec.read (spec.content_said depth) m (slice_range bytes.now at end)) }
+    ensures inside { IfOk result (HasParts bytes.now) }
+{
+    let mut found = [None; GROUPS];
+    let mut place = at;
+    'fields: while let Some(field) = next_field(bytes, place, end)? {
+        take(bytes, m, field, depth, &mut found)?;
         place = field.next;
     }
     Ok(found)

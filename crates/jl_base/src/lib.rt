@@ -2,11 +2,20 @@
 //! the bytes of the inputs, and the traits of the outside with their devices.
 //!
 //! It promises that a device's failure is told only where the device's own count of faults rose, and that what a
-//! device took or gave is a prefix of what it was asked. It stands on nothing but the standard library.
+//! device took or gave is a prefix of what it was asked. It stands on the standard library, and on `sqlite_items` for
+//! a box that contracts see as its value.
 #![tactic(auto)]
 
 mod kind;
 mod place;
+mod seq;
+mod space;
+mod term;
+mod text;
 
 pub use kind::{Kind, kind_name};
 pub use place::{Fault, Place, Run, Span};
+pub use seq::Seq;
+pub use space::Space;
+pub use term::{Item, Items, Tail, Term, Three};
+pub use text::Text;

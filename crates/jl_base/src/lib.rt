@@ -9,6 +9,8 @@
 mod kind;
 mod place;
 mod seq;
+mod sink;
+mod source;
 mod space;
 mod term;
 mod text;
@@ -16,6 +18,8 @@ mod text;
 pub use kind::{Kind, kind_name};
 pub use place::{Fault, Place, Run, Span};
 pub use seq::Seq;
-pub use space::Space;
+pub use sink::{Shelf, Sink, write_all};
+pub use source::{Failed, Source};
+pub use space::{FillFault, Space};
 pub use term::{Item, Items, Tail, Term, Three};
 pub use text::Text;

@@ -1,2 +1,4 @@
+pub mod CutLemmas
+pub mod ScheduleLemmas
 pub mod SinkLemmas
 pub mod SourceLemmas

@@ -1,7 +1,11 @@
 pub mod Causes
+pub mod Cuts
 pub mod Filling
 pub mod Kinds
+pub mod MemShelves
+pub mod MemSources
 pub mod Results
+pub mod Schedules
 pub mod Sinks
 pub mod Sources
 pub mod Spans

@@ -6,7 +6,10 @@
 //! a box that contracts see as its value.
 #![tactic(auto)]
 
+mod calls;
 mod kind;
+mod mem_shelf;
+mod mem_source;
 mod place;
 mod seq;
 mod sink;
@@ -16,6 +19,8 @@ mod term;
 mod text;
 
 pub use kind::{Kind, kind_name};
+pub use mem_shelf::MemShelf;
+pub use mem_source::MemSource;
 pub use place::{Fault, Place, Run, Span};
 pub use seq::Seq;
 pub use sink::{Shelf, Sink, write_all};

@@ -7,6 +7,9 @@
 #![tactic(auto)]
 
 mod calls;
+mod err_sink;
+mod file_shelf;
+mod file_source;
 mod kind;
 mod mem_shelf;
 mod mem_source;
@@ -18,6 +21,9 @@ mod space;
 mod term;
 mod text;
 
+pub use err_sink::ErrSink;
+pub use file_shelf::FileShelf;
+pub use file_source::FileSource;
 pub use kind::{Kind, kind_name};
 pub use mem_shelf::MemShelf;
 pub use mem_source::MemSource;

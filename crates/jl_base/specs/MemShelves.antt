@@ -1,5 +1,5 @@
 -- A shelf in memory.
-use Rattle.std.specs.Prelude.{◌≡◌, ℕ, drop, vec_len}
+use Rattle.std.specs.Prelude.{ℕ, drop, vec_len}
 use Rattle.jl_base.specs.Cuts.{parts_from}
 use Rattle.jl_base.specs.Sinks.{Held}
 use Rattle.jl_base.specs.Schedules.{Schedule}

@@ -1,4 +1,4 @@
-use Rattle.std.proofs.Common.{◌≡◌, ◌≤◌, get_or, ◌∷◌, length, arith, rules, sym, ◌∙◌, ap, List, ℕ, Some}
+use Rattle.std.proofs.Common.{get_or, arith, sym, ◌∙◌, ap, ℕ, Some}
 use Rattle.std.specs.List.{slice_range}
 use Rattle.jl_base.proofs.CutLemmas.{get-parts_from, part_bounds}
 use Rattle.jl_base.proofs.mem_shelf.part_of.Goals as goal

@@ -1,4 +1,4 @@
-use Rattle.std.proofs.Common.{◌≤◌, ◌∙◌, ◌++◌, List, ℕ, length, take, drop, ap, arith}
+use Rattle.std.proofs.Common.{◌∙◌, List, ℕ, take, drop, ap, arith}
 use Rattle.std.proofs.lemmas.List.{drop-append-le}
 use Rattle.jl_base.specs.Cuts.{parts_from}
 use Rattle.jl_base.proofs.CutLemmas.{parts_from-append, held_parts}

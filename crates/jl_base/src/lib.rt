@@ -34,3 +34,6 @@ pub use source::{Failed, Source};
 pub use space::{FillFault, Space};
 pub use term::{Item, Items, Tail, Term, Three};
 pub use text::Text;
+
+#[cfg(test)]
+mod tests;

@@ -1,0 +1,6 @@
+pub mod CutLemmas
+pub mod PartLemmas
+pub mod ScheduleLemmas
+pub mod SinkLemmas
+pub mod SourceLemmas
+pub mod SourceListLemmas

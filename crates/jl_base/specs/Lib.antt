@@ -1,4 +1,14 @@
+pub mod Causes
+pub mod Cuts
+pub mod Filling
 pub mod Kinds
+pub mod MemShelves
+pub mod MemSources
+pub mod Parts
 pub mod Results
+pub mod Schedules
+pub mod Sinks
+pub mod SourceLists
+pub mod Sources
 pub mod Spans
 pub mod Terms

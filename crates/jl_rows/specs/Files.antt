@@ -1,6 +1,6 @@
 -- Frames and the rows in them (Jelly RDF serialization, "Delimited variant of Jelly" and "RdfStreamFrame").
 use Rattle.std.specs.Prelude.{ℕ, zero, suc, ◌+◌, ◌-◌, Bool, ◌==◌, List, [], ◌∷◌, length, take, drop, Option, Some, None, Result, Ok, Err, nat_lt, if◌then◌else◌}
-use Rattle.jl_base.specs.Results.{◌>>=◌, refuse_if, Reading, led, with_front, followed, joined}
+use Rattle.jl_base.specs.Results.{◌>>=◌, Reading, led, with_front, followed, joined}
 use Rattle.jl_base.specs.declared.kind.Kind.{Kind}
 use Rattle.jl_base.specs.declared.kind.Kind.TheVariants.{Truncated, WrongWire}
 use Rattle.jl_base.specs.declared.place.Place.{Place}
@@ -10,22 +10,26 @@ use Rattle.jl_wire.specs.Fields.{Content, Field, fields}
 use Rattle.jl_rows.specs.Written.{Row}
 use Rattle.jl_rows.specs.Rows.{row}
 
--- what a field of a frame is: a row, metadata whose content is unread, or unknown
-abbrev pub row_in : Content → Result Row Kind
-row_in (Content.Bytes t) = row t
+-- what a field of a frame says: a row, or nothing; the content of metadata is unread
+abbrev pub row_in : Content → Result (Option Row) Kind
+row_in (Content.Bytes t) = row t >>= λ r. Ok (Some r)
 row_in _ = Err WrongWire
 
-abbrev pub skipped : Content → Result (Unit {0}) Kind
-skipped (Content.Bytes t) = Ok tt
-skipped _ = Err WrongWire
+abbrev pub unread : Content → Result (Option Row) Kind
+unread (Content.Bytes t) = Ok None
+unread _ = Err WrongWire
+
+abbrev pub said_in_frame : ℕ → Content → Result (Option Row) Kind
+said_in_frame number content = if number == 1 then row_in content else if number == 15 then unread content else Ok None
+
+abbrev pub in_front : Option Row → Reading Row Kind → Reading Row Kind
+in_front None next = next
+in_front (Some r) next = with_front r next
 
 -- the rows of a frame, in the order of its fields, up to the first fault
 unfoldable pub rows_among : List Field → Option Kind → Reading Row Kind
 rows_among [] fault = record { items = []; fault = fault }
-rows_among (f ∷ fs) fault =
-    if f.number == 1 then led (row_in f.content) (λ r. with_front r (rows_among fs fault))
-    else if f.number == 15 then led (skipped f.content) (λ _. rows_among fs fault)
-    else rows_among fs fault
+rows_among (f ∷ fs) fault = led (said_in_frame f.number f.content) (λ r. in_front r (rows_among fs fault))
 
 unfoldable pub rows : List ℕ → Reading Row Kind
 rows body = rows_among (fields body).items (fields body).fault

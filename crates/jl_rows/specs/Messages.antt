@@ -2,7 +2,9 @@
 use Rattle.jl_rows.specs.declared.message.Message.{Message}
 use Rattle.jl_rows.specs.declared.message.Shape.{Shape}
 use Rattle.jl_rows.specs.declared.message.Known.{Known}
-use Rattle.std.specs.Prelude.{ℕ, Bool, ◌==◌, List, [], ◌∷◌, ◌++◌, find, Option}
+use Rattle.jl_rows.specs.declared.message.Sort.{Sort}
+use Rattle.jl_rows.specs.declared.row.Table.{Table}
+use Rattle.std.specs.Prelude.{ℕ, Bool, ◌==◌, List, [], ◌∷◌, ◌++◌, find, Option, Some, None, if◌then◌else◌}
 
 -- a known field: its number, what it holds, and its group
 abbrev pub known : ℕ → Shape → ℕ → Known
@@ -40,3 +42,17 @@ known_as m n = find (λ (k : Known). k.number == n) (table m)
 -- what the groups of a message may be counted by: the options have nine
 abbrev pub groups : ℕ
 groups = 9
+
+-- what a row's one field makes of it, by its number
+abbrev pub sort_of : ℕ → Option Sort
+sort_of n =
+    if n == 1 then Some Sort.Options
+    else if n == 2 then Some Sort.Triple
+    else if n == 3 then Some Sort.Quad
+    else if n == 4 then Some Sort.GraphStart
+    else if n == 5 then Some Sort.GraphEnd
+    else if n == 6 then Some Sort.Namespace
+    else if n == 9 then Some (Sort.Entry Table.Name)
+    else if n == 10 then Some (Sort.Entry Table.Prefix)
+    else if n == 11 then Some (Sort.Entry Table.Datatype)
+    else None

@@ -7,6 +7,8 @@ use Rattle.jl_wire.specs.Fields.{Content, Field, fields}
 use Rattle.jl_rows.specs.declared.row.Table.{Table}
 use Rattle.jl_rows.specs.Written.{Term, StreamOptions, Row}
 use Rattle.jl_rows.specs.declared.message.Message.{Message}
+use Rattle.jl_rows.specs.declared.message.Sort.{Sort}
+use Rattle.jl_rows.specs.Messages.{sort_of}
 use Rattle.jl_rows.specs.Reading.{Parts, part, number_32, flag, text, term, ids, message, empty}
 
 unfoldable pub options : List ℕ → Result StreamOptions Kind
@@ -37,25 +39,6 @@ namespace bytes = message Message.Namespace bytes >>= λ ps. Ok (Row.Namespace (
 unfoldable pub entry : Table → List ℕ → Result Row Kind
 entry table bytes = message Message.Entry bytes >>= λ ps. Ok (Row.Entry table (number_32 (part ps 0)) (text (part ps 1)))
 
--- the kinds of rows
-pub data Sort : Type 0 where
-  Options Triple Quad GraphStart GraphEnd Namespace : Sort
-  Entry : Table → Sort
-
--- the field numbers of the kinds
-abbrev pub sort_of : ℕ → Option Sort
-sort_of n =
-    if n == 1 then Some Sort.Options
-    else if n == 2 then Some Sort.Triple
-    else if n == 3 then Some Sort.Quad
-    else if n == 4 then Some Sort.GraphStart
-    else if n == 5 then Some Sort.GraphEnd
-    else if n == 6 then Some Sort.Namespace
-    else if n == 9 then Some (Sort.Entry Table.Name)
-    else if n == 10 then Some (Sort.Entry Table.Prefix)
-    else if n == 11 then Some (Sort.Entry Table.Datatype)
-    else None
-
 -- what a row of a kind says
 abbrev pub said_by : Sort → List ℕ → Result Row Kind
 said_by Sort.Options t = options t >>= λ o. Ok (Row.Options o)
@@ -80,6 +63,10 @@ row_walk [] None before = Ok before
 row_walk [] (Some fault) before = Err fault
 row_walk (f ∷ fs) fault before = row_taken_if_known (sort_of f.number) f.content before >>= λ after. row_walk fs fault after
 
+-- a row's message, or the rest of one behind the row so far
+unfoldable pub row_on : Option Row → List ℕ → Result (Option Row) Kind
+row_on before bytes = row_walk (fields bytes).items (fields bytes).fault before
+
 -- a row's message; one without a kind is refused
 unfoldable pub row : List ℕ → Result Row Kind
-row bytes = row_walk (fields bytes).items (fields bytes).fault None >>= λ r. some_or r EmptyRow
+row bytes = row_on None bytes >>= λ r. some_or r EmptyRow

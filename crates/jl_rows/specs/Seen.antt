@@ -1,10 +1,10 @@
 -- What the code's rows and parts stand for: their texts in place of where these lie.
-use Rattle.std.specs.Prelude.{◌≡◌, ℕ, ◌+◌, ◌≤◌, List, map, length, slice_index_or, Option, Some, None, is_some, Result, Ok, Err, false}
+use Rattle.std.specs.Prelude.{◌≡◌, ℕ, ◌+◌, ◌<◌, ◌≤◌, List, [], map, length, slice_index_or, slice_range, Option, Some, None, is_some, Result, Ok, Err, false}
 use Rattle.std.specs.Option.{option_map}
 use Rattle.jl_base.specs.Spans.{text_of, IsInside}
 use Rattle.jl_base.specs.declared.place.Span.{Span}
 use Rattle.jl_base.specs.declared.kind.Kind.{Kind}
-use Rattle.jl_base.specs.Results.{◌>>=◌, refuse_if}
+use Rattle.jl_base.specs.Results.{◌>>=◌, refuse_if, Reading, with_front}
 use Rattle.jl_base.specs.declared.kind.Kind.TheVariants.{WrongWire, Twice}
 use Rattle.jl_wire.specs.Seen.{content_seen}
 use Rattle.jl_rows.specs.declared.message.Known.{Known}
@@ -25,6 +25,7 @@ use Rattle.jl_rows.specs.declared.read.Part.{Part}
 use Rattle.jl_rows.specs.declared.read.Part.TheVariants as parts
 use Rattle.jl_rows.specs.Written as written
 use Rattle.jl_rows.specs.Reading as reading
+use Rattle.jl_rows.specs.Files as files
 use Rattle.jl_rows.specs.Reading.{content_said}
 use Rattle.jl_rows.specs.Messages.{groups}
 
@@ -157,3 +158,23 @@ IsFree bytes k value ps (Err kind) = (do
 abbrev pub nested_span : Shape → Value → Option Span
 nested_span Shape.Nested (values.Bytes span) = Some span
 nested_span _ _ = None
+
+-- A step on a row answers what the definition says of it.
+abbrev pub TakesRow : List ℕ → Result (Option written.Row) Kind → Option Row → Result (Unit {0}) Kind → Type 0
+TakesRow bytes said after (Ok _) = said ≡ Ok (option_map (row_seen bytes) after)
+TakesRow bytes said after (Err k) = said ≡ Err k
+
+abbrev pub HasMaybeRow : List ℕ → Option Row → Type 0
+HasMaybeRow bytes None = Unit {0}
+HasMaybeRow bytes (Some r) = HasRow bytes r
+
+-- What a reader of a frame answers at a place of it: the next row and the place behind it, no row and no fault up to the
+-- end, or the fault that comes before any row.
+abbrev pub IsNextRow : List ℕ → ℕ → ℕ → Result (Option (Row × ℕ)) Kind → Type 0
+IsNextRow bytes at end (Ok (Some r)) = files.rows (slice_range bytes at end) ≡ with_front (row_seen bytes r.0) (files.rows (slice_range bytes r.1 end))
+IsNextRow bytes at end (Ok None) = files.rows (slice_range bytes at end) ≡ record { items = []; fault = None }
+IsNextRow bytes at end (Err k) = files.rows (slice_range bytes at end) ≡ record { items = []; fault = Some k }
+
+-- a row that was read at a place of a frame
+abbrev pub IsRowWithin : List ℕ → ℕ → ℕ → Row × ℕ → Type 0
+IsRowWithin bytes at end r = (at < r.1) × (r.1 ≤ end) × HasRow bytes r.0

@@ -8,6 +8,7 @@
 mod message;
 mod options;
 mod read;
+mod read_row;
 mod row;
 
 pub use message::{Known, Message, Shape};

@@ -1,6 +1,8 @@
 //! The table of messages: which fields each has, what they hold, and which exclude each other.
 ghost use Rattle.std.specs.Prelude.{◌≡◌, ◌<◌, IfSome};
-ghost use Rattle.jl_rows.specs.Messages.{groups, known, known_as};
+ghost use Rattle.jl_rows.specs.Messages.{groups, known, known_as, sort_of};
+
+use crate::row::Table;
 
 /// The messages that stand in a row, and those that stand in them.
 #[derive(Clone, Copy, Debug, PartialEq, Eq)]
@@ -35,6 +37,36 @@ pub struct Known {
     pub number: u32,
     pub shape: Shape,
     pub group: usize,
+}
+
+/// The kinds of rows.
+#[derive(Clone, Copy, Debug)]
+pub enum Sort {
+    Options,
+    Triple,
+    Quad,
+    GraphStart,
+    GraphEnd,
+    Namespace,
+    Entry(Table),
+}
+
+/// The kind of row that a field of this number makes, where it makes one.
+pub fn sort_of(number: u32) -> Option<Sort>
+    ensures { result ≡ sort_of number }
+{
+    match number {
+        1 => Some(Sort::Options),
+        2 => Some(Sort::Triple),
+        3 => Some(Sort::Quad),
+        4 => Some(Sort::GraphStart),
+        5 => Some(Sort::GraphEnd),
+        6 => Some(Sort::Namespace),
+        9 => Some(Sort::Entry(Table::Name)),
+        10 => Some(Sort::Entry(Table::Prefix)),
+        11 => Some(Sort::Entry(Table::Datatype)),
+        _ => None,
+    }
 }
 
 impl Message {

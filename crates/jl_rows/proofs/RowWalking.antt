@@ -1,0 +1,60 @@
+-- One field after another of a row, and of a frame, that are read in place.
+use Rattle.std.proofs.Common.{◌≡◌, ℕ, ◌+◌, ◌≤◌, ◌<◌, List, [], ◌∷◌, length, slice_range, Option, Some, None, Result, Ok, Err, refl, ap, sym, ◌∙◌, arith}
+use Rattle.jl_base.specs.Results.{◌>>=◌, Reading, led, with_front}
+use Rattle.jl_base.specs.declared.kind.Kind.{Kind}
+use Rattle.jl_wire.specs.Fields.{Content, Field, field, fields}
+use Rattle.jl_wire.specs.declared.field.Field as code
+use Rattle.jl_wire.specs.Seen.{content_seen, field_seen, IsNextField, IsWithin}
+use Rattle.jl_wire.proofs.FieldLaws.{fields_at_end, fields_at_fault, fields_at_next}
+use Rattle.jl_rows.specs.Written.{Row}
+use Rattle.jl_rows.specs.Messages.{sort_of}
+use Rattle.jl_rows.specs.Rows.{row_taken_if_known, row_walk, row_on}
+use Rattle.jl_rows.specs.Files.{said_in_frame, in_front, rows_among, rows}
+
+module _ (bytes : List ℕ) (at end : ℕ) (before : Option Row) where
+  pub row_end : at ≡ end → row_on before (slice_range bytes at end) ≡ Ok before
+  unfolding row_on row_walk
+  row_end e = ap (λ (fs : Reading Field Kind). row_walk fs.items fs.fault before) (fields_at_end bytes at end e)
+
+  pub row_fault : (k : Kind) → end ≤ length bytes → IsNextField bytes at end (Err k) → row_on before (slice_range bytes at end) ≡ Err k
+  unfolding row_on row_walk
+  row_fault k inside h = ap (λ (fs : Reading Field Kind). row_walk fs.items fs.fault before) (fields_at_fault bytes at end k inside h)
+
+  row_next : (f : code.Field) → IsNextField bytes at end (Ok (Some f)) → at ≤ f.next → f.next ≤ end
+      → row_on before (slice_range bytes at end) ≡ (row_taken_if_known (sort_of f.number) (content_seen bytes f.value) before >>= λ r. row_on r (slice_range bytes f.next end))
+  unfolding row_on row_walk
+  row_next f h after inside = ap (λ (fs : Reading Field Kind). row_walk fs.items fs.fault before) (fields_at_next bytes at end f after inside h.1)
+
+  pub row_took : (f : code.Field) → IsNextField bytes at end (Ok (Some f)) → IsWithin at end f → (after : Option Row) → row_taken_if_known (sort_of f.number) (content_seen bytes f.value) before ≡ Ok after
+      → row_on before (slice_range bytes at end) ≡ row_on after (slice_range bytes f.next end)
+  row_took f h within after e =
+      row_next f h (omega (arith, within.after)) within.before ∙ ap (λ (r : Result (Option Row) Kind). r >>= λ (x : Option Row). row_on x (slice_range bytes f.next end)) e
+
+  pub row_refused : (f : code.Field) → IsNextField bytes at end (Ok (Some f)) → IsWithin at end f → (k : Kind) → row_taken_if_known (sort_of f.number) (content_seen bytes f.value) before ≡ Err k
+      → row_on before (slice_range bytes at end) ≡ Err k
+  row_refused f h within k e =
+      row_next f h (omega (arith, within.after)) within.before ∙ ap (λ (r : Result (Option Row) Kind). r >>= λ (x : Option Row). row_on x (slice_range bytes f.next end)) e
+
+module _ (bytes : List ℕ) (at end : ℕ) where
+  pub rows_end : at ≡ end → rows (slice_range bytes at end) ≡ record { items = []; fault = None }
+  unfolding rows rows_among
+  rows_end e = ap (λ (fs : Reading Field Kind). rows_among fs.items fs.fault) (fields_at_end bytes at end e)
+
+  pub rows_fault : (k : Kind) → end ≤ length bytes → IsNextField bytes at end (Err k) → rows (slice_range bytes at end) ≡ record { items = []; fault = Some k }
+  unfolding rows rows_among
+  rows_fault k inside h = ap (λ (fs : Reading Field Kind). rows_among fs.items fs.fault) (fields_at_fault bytes at end k inside h)
+
+  rows_next : (f : code.Field) → IsNextField bytes at end (Ok (Some f)) → at ≤ f.next → f.next ≤ end
+      → rows (slice_range bytes at end) ≡ led (said_in_frame f.number (content_seen bytes f.value)) (λ r. in_front r (rows (slice_range bytes f.next end)))
+  unfolding rows rows_among
+  rows_next f h after inside = ap (λ (fs : Reading Field Kind). rows_among fs.items fs.fault) (fields_at_next bytes at end f after inside h.1)
+
+  pub rows_took : (f : code.Field) → IsNextField bytes at end (Ok (Some f)) → IsWithin at end f → (r : Option Row) → said_in_frame f.number (content_seen bytes f.value) ≡ Ok r
+      → rows (slice_range bytes at end) ≡ in_front r (rows (slice_range bytes f.next end))
+  rows_took f h within r e =
+      rows_next f h (omega (arith, within.after)) within.before ∙ ap (λ (x : Result (Option Row) Kind). led x (λ r. in_front r (rows (slice_range bytes f.next end)))) e
+
+  pub rows_refused : (f : code.Field) → IsNextField bytes at end (Ok (Some f)) → IsWithin at end f → (k : Kind) → said_in_frame f.number (content_seen bytes f.value) ≡ Err k
+      → rows (slice_range bytes at end) ≡ record { items = []; fault = Some k }
+  rows_refused f h within k e =
+      rows_next f h (omega (arith, within.after)) within.before ∙ ap (λ (x : Result (Option Row) Kind). led x (λ r. in_front r (rows (slice_range bytes f.next end)))) e

@@ -1,0 +1,42 @@
+use Rattle.std.proofs.Common.{◌∙◌, sym, ap, arith, Option, Some, None}
+use Rattle.std.specs.Option.{option_map}
+use Rattle.std.proofs.lemmas.Result.{err_from_is_err_and}
+use Rattle.jl_rows.specs.Written as written
+use Rattle.jl_rows.specs.Seen.{row_seen}
+use Rattle.jl_rows.proofs.RowWalking.{rows_end, rows_fault, rows_took, rows_refused}
+use Rattle.jl_rows.proofs.read_row.next_row_at.Goals as goal
+
+pub returns-in_err-field-clause-exact : goal.returns-in_err-field-clause-exact
+returns-in_err-field-clause-exact c =
+    let p = err_from_is_err_and c.from_residual.result c.from_residual.ensures.1 in
+    rw (p.1, p.2) (c.fields.invariant.rest ∙ rows_fault c.args.bytes.now c.fields.place c.args.end c.in_err-field.field-0.0 c.requires.inside c.in_err-field.ensures.exact)
+
+pub returns-in_err-row-clause-exact : goal.returns-in_err-row-clause-exact
+returns-in_err-row-clause-exact c =
+    let said = rw c.in-Some.is at c.in_ok-field.ensures.exact in
+    let within = rw c.in-Some.is at c.in_ok-field.ensures.within in
+    let p = err_from_is_err_and c.from_residual-in_err-row.result c.from_residual-in_err-row.ensures.1 in
+    rw (p.1, p.2) (c.fields.invariant.rest ∙ rows_refused c.args.bytes.now c.fields.place c.args.end c.in-Some.field said within c.in_err-row.field-0.0 c.in_err-row.ensures.exact)
+
+pub returns-in-Some-2-clause-exact : goal.returns-in-Some-2-clause-exact
+returns-in-Some-2-clause-exact c =
+    let said = rw c.in-Some.is at c.in_ok-field.ensures.exact in
+    let within = rw c.in-Some.is at c.in_ok-field.ensures.within in
+    let found = rw c.in-Some-2.is at c.in_ok-row.ensures.exact in
+    c.fields.invariant.rest ∙ rows_took c.args.bytes.now c.fields.place c.args.end c.in-Some.field said within (Some (row_seen c.args.bytes.now c.in-Some-2.row)) found
+
+pub fields-preserved : goal.fields-preserved
+fields-preserved c =
+    let said = rw c.in-Some.is at c.in_ok-field.ensures.exact in
+    let within = rw c.in-Some.is at c.in_ok-field.ensures.within in
+    let found = rw c.in_default-2.is at c.in_ok-row.ensures.exact in
+    record {
+      before = within.before;
+      after = omega (arith, within.after, c.fields.invariant.after);
+      rest = c.fields.invariant.rest ∙ rows_took c.args.bytes.now c.fields.place c.args.end c.in-Some.field said within None found;
+    }
+
+pub returns-clause-exact : goal.returns-clause-exact
+returns-clause-exact c =
+    let ended = rw c.in_default.is at c.in_ok-field.ensures.exact in
+    c.fields.invariant.rest ∙ rows_end c.args.bytes.now c.fields.place c.args.end ended

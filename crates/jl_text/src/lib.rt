@@ -1,0 +1,6 @@
+//! The texts of the tool: the parts of an N-Quads line, written straight from bytes, and the line that a fault has on
+//! standard error.
+//!
+//! It promises that each writer appends exactly what the definitions of a line say, and that a fault's line takes no
+//! memory. It stands on jl_base.
+#![tactic(auto)]

@@ -1,1 +1,4 @@
 mod Rows
+pub mod EscapeLemmas
+pub mod LaneLemmas
+pub mod RawLemmas

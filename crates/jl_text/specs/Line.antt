@@ -44,8 +44,11 @@ string_escaped text = flat_map string_byte text
 
 -- BLANK_NODE_LABEL has letters and digits, among others. `X`, with two hexadecimal digits behind it, stands for each byte
 -- that is none of these, and for itself.
+abbrev pub label_escape : ℕ → List ℕ
+label_escape b = codes "X" ++ hexadecimal b
+
 unfoldable pub label_byte : ℕ → List ℕ
-label_byte b = if is_ascii_alphanumeric b && not (b == 0x58) then b ∷ [] else codes "X" ++ hexadecimal b
+label_byte b = if is_ascii_alphanumeric b && not (b == 0x58) then b ∷ [] else label_escape b
 
 -- A label has at least one character: `X` alone is the empty one.
 unfoldable pub label_written : List ℕ → List ℕ

@@ -4,3 +4,6 @@
 //! It promises that each writer appends exactly what the definitions of a line say, and that a fault's line takes no
 //! memory. It stands on jl_base.
 #![tactic(auto)]
+
+mod escape;
+mod lanes;

@@ -16,6 +16,6 @@ raw_from_empty_mask text at n z f room few fits lanes table empty =
     let stops : ℕ → Bool = λ x. top 7 (f x) in
     let v = chunk at n text in
     let mask : mask_l (map (top 7) z) % 2 ^ 64 ≡ mask_l (map stops v) =
-        ap (λ l. mask_l l % 2 ^ 64) (ap (map (top 7)) lanes ∙ map-map (top 7) f v) ∙ mask_l-mod (map stops v) 64 (omega (arith, length-map v stops, length-chunk at n text room)) in
+    ap (λ l. mask_l l % 2 ^ 64) (ap (map (top 7)) lanes ∙ map-map (top 7) f v) ∙ mask_l-mod (map stops v) 64 (omega (arith, length-map v stops, length-chunk at n text room)) in
     λ k from to. not-false _ (sym (agree_below_at stops (λ x. not (is_raw StringLiteral x)) 256 (get_or text k 0) table (fits k).fits)
-        ∙ none_from_empty_mask stops text at n 0 room (sym mask ∙ eqb-true _ 0 empty) k from to)
+    ∙ none_from_empty_mask stops text at n 0 room (sym mask ∙ eqb-true _ 0 empty) k from to)

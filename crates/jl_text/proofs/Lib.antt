@@ -2,3 +2,4 @@ mod Rows
 pub mod EscapeLemmas
 pub mod LaneLemmas
 pub mod RawLemmas
+pub mod CleanLemmas

@@ -40,7 +40,7 @@ stretch_more t text at end old copied new all run inside goes_on copies writes =
     let b = get_or text end 0 in
     let rest = escaped t (drop (end + 1) text) in
     let split : escaped t (drop at text) ≡ slice_range text at end ++ (byte_text t b ++ rest) =
-        escaped-drop t text at end run ∙ ap (λ (l : List ℕ). slice_range text at end ++ escaped t l) (drop_more text end 0 inside) in
+    escaped-drop t text at end run ∙ ap (λ (l : List ℕ). slice_range text at end ++ escaped t l) (drop_more text end 0 inside) in
     ap (λ (l : List ℕ). l ++ rest) (writes ∙ ap (λ (l : List ℕ). l ++ byte_text t b) copies)
     ∙ append_assoc (old ++ slice_range text at end) (byte_text t b) rest ∙ append_assoc old (slice_range text at end) (byte_text t b ++ rest)
     ∙ ap (λ (l : List ℕ). old ++ l) (sym split) ∙ goes_on
@@ -50,7 +50,7 @@ pub stretch_all : (t : Terminal) (text : List ℕ) (at end : ℕ) (old copied al
     → old ++ escaped t (drop at text) ≡ all → copied ≡ old ++ slice_range text at end → copied ≡ all
 stretch_all t text at end old copied all run past goes_on copies =
     let split : escaped t (drop at text) ≡ slice_range text at end =
-        escaped-drop t text at end run ∙ ap (λ (l : List ℕ). slice_range text at end ++ escaped t l) (drop_all end text past) ∙ append-nil _ in
+    escaped-drop t text at end run ∙ ap (λ (l : List ℕ). slice_range text at end ++ escaped t l) (drop_all end text past) ∙ append-nil _ in
     copies ∙ ap (λ (l : List ℕ). old ++ l) (sym split) ∙ goes_on
 
 -- a text that stands for itself from end to end

@@ -7,3 +7,9 @@
 
 mod escape;
 mod lanes;
+mod term;
+
+pub use term::{
+    is_clean_iri, is_xsd_string, push_clean_iri, push_datatype, push_iri, push_label, push_string,
+    push_tag,
+};

@@ -9,7 +9,7 @@ returns-then-end-text c =
 
 pub stretches-preserved : goal.stretches-preserved
 stretches-preserved c = (
-      omega (arith, c.raw_end-end.ensures.up_to.in_range),
-      stretch_more c.args.terminal c.args.text.now c.stretches.at c.raw_end-end.result _ _ _ _ c.raw_end-end.ensures.up_to (omega (arith, c.raw_end-end.ensures.up_to.in_range))
+  omega (arith, c.raw_end-end.ensures.up_to.in_range),
+  stretch_more c.args.terminal c.args.text.now c.stretches.at c.raw_end-end.result _ _ _ _ c.raw_end-end.ensures.up_to (omega (arith, c.raw_end-end.ensures.up_to.in_range))
       c.stretches.invariant.1 c.in_ok-extend_from_slice.ensures.items c.in_ok-push_escape.ensures,
-    )
+)

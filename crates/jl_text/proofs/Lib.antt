@@ -1,4 +1,5 @@
 mod Rows
+mod NoticeRows
 pub mod EscapeLemmas
 pub mod LaneLemmas
 pub mod RawLemmas

@@ -2,13 +2,17 @@
 //! standard error.
 //!
 //! It promises that each writer appends exactly what the definitions of a line say, and that a fault's line takes no
-//! memory. It stands on jl_base.
+//! memory. It stands on jl_base and itoa.
 #![tactic(auto)]
 
 mod escape;
 mod lanes;
+mod notice;
+mod short;
 mod term;
 
+pub use notice::{Notice, report_fault};
+pub use short::Short;
 pub use term::{
     is_clean_iri, is_xsd_string, push_clean_iri, push_datatype, push_iri, push_label, push_string,
     push_tag,

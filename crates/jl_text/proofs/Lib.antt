@@ -1,0 +1,6 @@
+mod Rows
+mod NoticeRows
+pub mod EscapeLemmas
+pub mod LaneLemmas
+pub mod RawLemmas
+pub mod CleanLemmas

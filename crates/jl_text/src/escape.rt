@@ -1,0 +1,155 @@
+//! The bytes that are written otherwise, in each terminal of the grammar whose text is free.
+ghost use Rattle.std.specs.Prelude.{◌≡◌, ◌+◌, ◌<◌, ◌≤◌, ◌++◌, true, false, length, OnOk, IsTrue};
+ghost use Rattle.std.specs.Fmt.{digit_glyph};
+ghost use Rattle.std.specs.List.{list_all};
+ghost use Rattle.jl_text.specs.Line.{unicode_escape, label_escape, string_byte};
+ghost use Rattle.jl_text.specs.Escapes.{byte_text, is_raw, escaped, RawUpTo, RawRun};
+
+use crate::lanes::past_string_blocks;
+use std::alloc::AllocError;
+
+/// The terminals in which some bytes are escaped.
+#[derive(Clone, Copy)]
+pub(crate) enum Terminal {
+    IriRef,
+    StringLiteral,
+    BlankNodeLabel,
+}
+
+// The terminals in which a byte stands for itself: 1 for IriRef, 2 for StringLiteral, 4 for BlankNodeLabel.
+static RAW: [u8; 256] = [
+    0, 0, 0, 0, 0, 0, 0, 0, 0, 0, 0, 0, 0, 0, 0, 0, 0, 0, 0, 0, 0, 0, 0, 0, 0, 0, 0, 0, 0, 0, 0, 0,
+    2, 3, 0, 3, 3, 3, 3, 3, 3, 3, 3, 3, 3, 3, 3, 3, 7, 7, 7, 7, 7, 7, 7, 7, 7, 7, 3, 3, 2, 3, 2, 3,
+    3, 7, 7, 7, 7, 7, 7, 7, 7, 7, 7, 7, 7, 7, 7, 7, 7, 7, 7, 7, 7, 7, 7, 7, 3, 7, 7, 3, 0, 3, 2, 3,
+    2, 7, 7, 7, 7, 7, 7, 7, 7, 7, 7, 7, 7, 7, 7, 7, 7, 7, 7, 7, 7, 7, 7, 7, 7, 7, 7, 2, 2, 2, 3, 1,
+    3, 3, 3, 3, 3, 3, 3, 3, 3, 3, 3, 3, 3, 3, 3, 3, 3, 3, 3, 3, 3, 3, 3, 3, 3, 3, 3, 3, 3, 3, 3, 3,
+    3, 3, 3, 3, 3, 3, 3, 3, 3, 3, 3, 3, 3, 3, 3, 3, 3, 3, 3, 3, 3, 3, 3, 3, 3, 3, 3, 3, 3, 3, 3, 3,
+    3, 3, 3, 3, 3, 3, 3, 3, 3, 3, 3, 3, 3, 3, 3, 3, 3, 3, 3, 3, 3, 3, 3, 3, 3, 3, 3, 3, 3, 3, 3, 3,
+    3, 3, 3, 3, 3, 3, 3, 3, 3, 3, 3, 3, 3, 3, 3, 3, 3, 3, 3, 3, 3, 3, 3, 3, 3, 3, 3, 3, 3, 3, 3, 3,
+];
+
+#[tactic(auto, using(crate::proofs::EscapeLemmas::table_of_iris, crate::proofs::EscapeLemmas::table_of_strings, crate::proofs::EscapeLemmas::table_of_labels))]
+#[inline(always)]
+pub(crate) fn is_raw(terminal: Terminal, b: u8) -> bool
+    ensures { result ≡ is_raw terminal b }
+{
+    let terminals = RAW[b as usize];
+    match terminal {
+        Terminal::IriRef => terminals & 1 != 0,
+        Terminal::StringLiteral => terminals & 2 != 0,
+        Terminal::BlankNodeLabel => terminals & 4 != 0,
+    }
+}
+
+/// Whether each byte stands for itself.
+#[inline]
+pub(crate) fn is_clean(terminal: Terminal, text: &[u8]) -> bool
+    ensures { result ≡ list_all (is_raw terminal) text.now }
+{
+    let mut all = true;
+    for b in text {
+        all &= is_raw(terminal, *b);
+    }
+    all
+}
+
+#[inline]
+fn hexadecimal_digit(d: u8) -> u8
+    requires { d < 16 }
+    ensures { result ≡ digit_glyph true d }
+{
+    if d < 10 { b'0' + d } else { b'A' + (d - 10) }
+}
+
+fn push_unicode_escape(out: &mut Vec<u8>, b: u8) -> Result<(), AllocError>
+    ensures { OnOk result (out.new.items ≡ out.old.items ++ unicode_escape b) }
+{
+    let high = hexadecimal_digit(b / 16);
+    let low = hexadecimal_digit(b % 16);
+    out.extend_from_slice(&[b'\\', b'u', b'0', b'0', high, low])
+}
+
+fn push_label_escape(out: &mut Vec<u8>, b: u8) -> Result<(), AllocError>
+    ensures { OnOk result (out.new.items ≡ out.old.items ++ label_escape b) }
+{
+    let high = hexadecimal_digit(b / 16);
+    let low = hexadecimal_digit(b % 16);
+    out.extend_from_slice(&[b'X', high, low])
+}
+
+#[tactic(auto, unfolding(crate::specs::Line::string_byte))]
+fn push_string_escape(out: &mut Vec<u8>, b: u8) -> Result<(), AllocError>
+    requires { is_raw Terminal.StringLiteral b ≡ false }
+    ensures { OnOk result (out.new.items ≡ out.old.items ++ string_byte b) }
+{
+    match b {
+        0x09 => out.extend_from_slice(b"\\t"),
+        0x08 => out.extend_from_slice(b"\\b"),
+        0x0A => out.extend_from_slice(b"\\n"),
+        0x0D => out.extend_from_slice(b"\\r"),
+        0x0C => out.extend_from_slice(b"\\f"),
+        0x22 => out.extend_from_slice(b"\\\""),
+        0x5C => out.extend_from_slice(b"\\\\"),
+        _ => push_unicode_escape(out, b),
+    }
+}
+
+// Appends the escape of a byte that doesn't stand for itself.
+#[tactic(auto, using(crate::proofs::EscapeLemmas::escape_of_iri, crate::proofs::EscapeLemmas::escape_of_label))]
+fn push_escape(out: &mut Vec<u8>, terminal: Terminal, b: u8) -> Result<(), AllocError>
+    requires { is_raw terminal b ≡ false }
+    ensures { OnOk result (out.new.items ≡ out.old.items ++ byte_text terminal b) }
+{
+    match terminal {
+        Terminal::IriRef => push_unicode_escape(out, b),
+        Terminal::StringLiteral => push_string_escape(out, b),
+        Terminal::BlankNodeLabel => push_label_escape(out, b),
+    }
+}
+
+// The strings of a file are long or many, so they are passed over in blocks.
+#[inline]
+fn past_blocks(terminal: Terminal, text: &[u8], at: usize) -> usize
+    requires { at ≤ length text.now }
+    ensures { RawUpTo terminal text.now at result }
+{
+    match terminal {
+        Terminal::IriRef => at,
+        Terminal::StringLiteral => past_string_blocks(text, at),
+        Terminal::BlankNodeLabel => at,
+    }
+}
+
+// The place of the first byte from `at` on that doesn't stand for itself, or the end.
+#[inline]
+fn raw_end(terminal: Terminal, text: &[u8], at: usize) -> usize
+    requires { at ≤ length text.now }
+    ensures { RawRun terminal text.now at result }
+{
+    let mut end = past_blocks(terminal, text, at);
+    while end < text.len() && is_raw(terminal, text[end]) {
+        end += 1;
+    }
+    end
+}
+
+/// Appends the text, whole stretches at a time.
+pub(crate) fn push_escaped(
+    out: &mut Vec<u8>,
+    terminal: Terminal,
+    text: &[u8],
+) -> Result<(), AllocError>
+    ensures { OnOk result (out.new.items ≡ out.old.items ++ escaped terminal text.now) }
+{
+    let mut at = 0;
+    'stretches: while at < text.len() {
+        let end = raw_end(terminal, text, at);
+        out.extend_from_slice(&text[at..end])?;
+        if end == text.len() {
+            return Ok(());
+        }
+        push_escape(out, terminal, text[end])?;
+        at = end + 1;
+    }
+    Ok(())
+}

@@ -1,0 +1,59 @@
+//! Many bytes of a string at once: whether they all stand for themselves.
+ghost use Rattle.std.specs.Prelude.{◌≡◌, ◌+◌, ◌≤◌, length, IsTrue};
+ghost use Rattle.jl_text.specs.Escapes.{AreRaw, RawUpTo};
+
+use crate::escape::{Terminal, is_clean};
+use std::simd::prelude::*;
+
+const LANES: usize = 16;
+
+const HALF_LANES: usize = 8;
+
+#[inline(always)]
+fn is_raw_block(text: &[u8], at: usize) -> bool
+    requires { at + LANES ≤ length text.now }
+    ensures { IsTrue result → AreRaw Terminal.StringLiteral text.now at (at + LANES) }
+{
+    let v = u8x16::from_slice(&text[at..]);
+    let is_control = v.simd_lt(u8x16::splat(b' ')) | v.simd_eq(u8x16::splat(0x7f));
+    let is_echar = v.simd_eq(u8x16::splat(b'"')) | v.simd_eq(u8x16::splat(b'\\'));
+    (is_control | is_echar).to_bitmask() == 0
+}
+
+#[inline(always)]
+fn is_raw_half_block(text: &[u8], at: usize) -> bool
+    requires { at + HALF_LANES ≤ length text.now }
+    ensures { IsTrue result → AreRaw Terminal.StringLiteral text.now at (at + HALF_LANES) }
+{
+    let v = u8x8::from_slice(&text[at..]);
+    let is_control = v.simd_lt(u8x8::splat(b' ')) | v.simd_eq(u8x8::splat(0x7f));
+    let is_echar = v.simd_eq(u8x8::splat(b'"')) | v.simd_eq(u8x8::splat(b'\\'));
+    (is_control | is_echar).to_bitmask() == 0
+}
+
+/// Passes over whole blocks of raw bytes.
+pub(crate) fn past_string_blocks(text: &[u8], at: usize) -> usize
+    requires { at ≤ length text.now }
+    ensures { RawUpTo Terminal.StringLiteral text.now at result }
+{
+    let mut end = at;
+    'by_block: while text.len() - end >= LANES && is_raw_block(text, end) {
+        end += LANES;
+    }
+    end
+}
+
+/// Whether all bytes stand for themselves. The last block may overlap the one before.
+#[inline]
+pub(crate) fn is_clean_string(text: &[u8]) -> bool
+    ensures { IsTrue result → AreRaw Terminal.StringLiteral text.now 0 (length text.now) }
+{
+    let len = text.len();
+    if len < HALF_LANES {
+        return is_clean(Terminal::StringLiteral, text);
+    }
+    if len < LANES {
+        return is_raw_half_block(text, 0) && is_raw_half_block(text, len - HALF_LANES);
+    }
+    past_string_blocks(text, 0) + LANES >= len && is_raw_block(text, len - LANES)
+}

@@ -1,0 +1,19 @@
+//! The texts of the tool: the parts of an N-Quads line, written straight from bytes, and the line that a fault has on
+//! standard error.
+//!
+//! It promises that each writer appends exactly what the definitions of a line say, and that a fault's line takes no
+//! memory. It stands on jl_base and itoa.
+#![tactic(auto)]
+
+mod escape;
+mod lanes;
+mod notice;
+mod short;
+mod term;
+
+pub use notice::{Notice, report_fault};
+pub use short::Short;
+pub use term::{
+    is_clean_iri, is_xsd_string, push_clean_iri, push_datatype, push_iri, push_label, push_string,
+    push_tag,
+};

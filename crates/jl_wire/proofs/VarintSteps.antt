@@ -140,3 +140,18 @@ unfolding varint
 one_byte bytes at end number size lt inside small is one =
     let fits : get_or bytes at 0 < 2 ^ 64 = omega arith in
     rw (is, one, range-cons bytes at end 0 lt inside, last_within 9 (get_or bytes at 0) (slice_range bytes (at + 1) end) small, lt-ltb (get_or bytes at 0) (2 ^ 64) fits) refl
+
+-- two bytes in front of a range, of which the second is below 128
+pub two_bytes : (bytes : List ℕ) (at end number size : ℕ) → at + 1 < end → end ≤ length bytes → 128 ≤ get_or bytes at 0 → get_or bytes at 0 < 256 → get_or bytes (at + 1) 0 < 128 → number ≡ get_or bytes at 0 - 128 + get_or bytes (at + 1) 0 * 128 → size ≡ 2 → varint (slice_range bytes at end) ≡ Ok (number, size)
+unfolding varint
+two_bytes bytes at end number size lt inside large byte small is two =
+    let low = get_or bytes at 0 in
+    let high = get_or bytes (at + 1) 0 in
+    let behind : at < end = omega arith in
+    let same : low - 128 + 128 * high ≡ number = omega arith in
+    let fits : number < 2 ^ 64 = omega arith in
+    let pair : ◌≡◌ {A = ℕ × ℕ} (low - 128 + 128 * high, 1 + 1) (number, size) = cc in
+    let whole : varint_within 10 (slice_range bytes at end) ≡ Ok (number, size) =
+    rw (range-cons bytes at end 0 behind inside, more_within 9 low (slice_range bytes (at + 1) end) large, range-cons bytes (at + 1) end 0 lt inside, last_within 8 high (slice_range bytes (at + 1 + 1) end) small)
+    (ap (λ (p : ℕ × ℕ). Ok p) pair) in
+    rw (whole, lt-ltb number (2 ^ 64) fits) refl

@@ -26,7 +26,7 @@ pub struct Field {
 
 /// The field at a place of a message that ends at `end`, or None at its end. The place after the field is where the
 /// next one begins.
-#[inline]
+#[inline(always)]
 pub fn next_field(bytes: &[u8], at: usize, end: usize) -> Result<Option<Field>, Kind>
     requires start { at ≤ end }
     requires inside { end ≤ length bytes.now }
@@ -72,9 +72,15 @@ fn content(bytes: &[u8], wire: u64, at: usize, end: usize) -> Result<(Value, usi
             let (number, next) = varint(bytes, at, end)?;
             Ok((Value::Varint(number), next))
         }
-        1 => eight_bytes(bytes, at, end),
+        1 => {
+            let (number, next) = eight_bytes(bytes, at, end)?;
+            Ok((Value::Fixed64(number), next))
+        }
         2 => counted_bytes(bytes, at, end),
-        _ => four_bytes(bytes, at, end),
+        _ => {
+            let (number, next) = four_bytes(bytes, at, end)?;
+            Ok((Value::Fixed32(number), next))
+        }
     }
 }
 
@@ -100,34 +106,34 @@ fn counted_bytes(bytes: &[u8], at: usize, end: usize) -> Result<(Value, usize), 
     ))
 }
 
-// Eight bytes as a number, the least first.
+// Eight bytes as a number, the least first, and the place after them.
 #[inline(never)]
-fn eight_bytes(bytes: &[u8], at: usize, end: usize) -> Result<(Value, usize), Kind>
+fn eight_bytes(bytes: &[u8], at: usize, end: usize) -> Result<(u64, usize), Kind>
     requires start { at ≤ end }
     requires inside { end ≤ length bytes.now }
-    ensures exact { Gives (λ r. (content_seen bytes.now r.0, r.1 - at)) result (spec.fixed w64 spec.Eight (slice_range bytes.now at end)) }
-    ensures within { IfOk result (λ r. (at < r.1) × (r.1 ≤ end) × Lies at r.1 r.0) }
+    ensures exact { Gives (λ r. (spec.Eight r.0, r.1 - at)) result (spec.fixed w64 spec.Eight (slice_range bytes.now at end)) }
+    ensures within { IfOk result (λ r. (at < r.1) × (r.1 ≤ end)) }
 {
     if end - at < 8 {
         return Err(Kind::Truncated);
     }
     let mut held = [0; 8];
     held.copy_from_slice(&bytes[at..at + 8]);
-    Ok((Value::Fixed64(u64::from_le_bytes(held)), at + 8))
+    Ok((u64::from_le_bytes(held), at + 8))
 }
 
-// Four bytes as a number, the least first.
+// Four bytes as a number, the least first, and the place after them.
 #[inline(never)]
-fn four_bytes(bytes: &[u8], at: usize, end: usize) -> Result<(Value, usize), Kind>
+fn four_bytes(bytes: &[u8], at: usize, end: usize) -> Result<(u32, usize), Kind>
     requires start { at ≤ end }
     requires inside { end ≤ length bytes.now }
-    ensures exact { Gives (λ r. (content_seen bytes.now r.0, r.1 - at)) result (spec.fixed w32 spec.Four (slice_range bytes.now at end)) }
-    ensures within { IfOk result (λ r. (at < r.1) × (r.1 ≤ end) × Lies at r.1 r.0) }
+    ensures exact { Gives (λ r. (spec.Four r.0, r.1 - at)) result (spec.fixed w32 spec.Four (slice_range bytes.now at end)) }
+    ensures within { IfOk result (λ r. (at < r.1) × (r.1 ≤ end)) }
 {
     if end - at < 4 {
         return Err(Kind::Truncated);
     }
     let mut held = [0; 4];
     held.copy_from_slice(&bytes[at..at + 4]);
-    Ok((Value::Fixed32(u32::from_le_bytes(held)), at + 4))
+    Ok((u32::from_le_bytes(held), at + 4))
 }

@@ -6,6 +6,8 @@
 
 mod field;
 mod number;
+#[cfg(test)]
+mod tests;
 mod text;
 
 pub use field::{Field, Value, next_field};

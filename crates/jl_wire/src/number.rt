@@ -18,6 +18,12 @@ pub fn varint(bytes: &[u8], at: usize, end: usize) -> Result<(u64, usize), Kind>
         if first < 128 {
             return Ok((u64::from(first), at + 1));
         }
+        if end - at > 1 {
+            let second = bytes[at + 1];
+            if second < 128 {
+                return Ok((u64::from(first - 128) + u64::from(second) * 128, at + 2));
+            }
+        }
     }
     long_varint(bytes, at, end)
 }

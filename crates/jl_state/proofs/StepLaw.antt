@@ -6,7 +6,8 @@ use Rattle.jl_base.specs.Results.{◌>>=◌, refuse_if, some_or, answered}
 use Rattle.jl_base.specs.Terms.{Value, Item}
 use Rattle.jl_base.specs.declared.kind.Kind.{Kind}
 use Rattle.jl_base.specs.declared.kind.Kind.TheVariants.{OptionsDiffer, WrongRow, BadEntry, NoTerm, NoGraph, GraphOpen}
-use Rattle.jl_rows.specs.Written.{Ids, Term, StreamOptions, Table, Row}
+use Rattle.jl_rows.specs.declared.row.Table.{Table}
+use Rattle.jl_rows.specs.Written.{Ids, Term, StreamOptions, Row}
 use Rattle.jl_rows.specs.History.{History, slot, entry_id, ids_written, seen_after, seen_in, prefix_id, name_id, counted}
 use Rattle.jl_rows.specs.Values.{Slots, Position, value, value_in, iri_text, slots_of, last_term, open_graph, set_by, seen_before, is_unset}
 use Rattle.jl_rows.specs.Decoder.{size_of, is_same, is_graphs, is_wrong_row, term_at, graph_around, stated, said_after, meaning}

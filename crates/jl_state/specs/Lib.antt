@@ -1,3 +1,5 @@
 pub mod States
 pub mod Steps
 pub mod Stands
+pub mod Extents
+pub mod KnownTerms

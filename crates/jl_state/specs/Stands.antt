@@ -2,7 +2,8 @@
 use Rattle.std.specs.Prelude.{◌≡◌, ℕ, ◌+◌, List, [], ◌∷◌, length, Result, Ok, Err}
 use Rattle.jl_base.specs.Terms.{Item}
 use Rattle.jl_base.specs.declared.kind.Kind.{Kind}
-use Rattle.jl_rows.specs.Written.{Ids, StreamOptions, Table, Row}
+use Rattle.jl_rows.specs.declared.row.Table.{Table}
+use Rattle.jl_rows.specs.Written.{Ids, StreamOptions, Row}
 use Rattle.jl_rows.specs.History.{History, slot, entry_id, seen_in, prefix_id, name_id}
 use Rattle.jl_rows.specs.Values.{Position, last_term, open_graph}
 use Rattle.jl_rows.specs.Decoder.{size_of, meaning}

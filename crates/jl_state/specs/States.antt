@@ -2,7 +2,8 @@
 -- each position and the open graph.
 use Rattle.std.specs.Prelude.{ℕ, ◌+◌, List, replicate, slice_index_or, slice_set, Option, None}
 use Rattle.jl_base.specs.Terms.{Value}
-use Rattle.jl_rows.specs.Written.{Ids, StreamOptions, Table}
+use Rattle.jl_rows.specs.declared.row.Table.{Table}
+use Rattle.jl_rows.specs.Written.{Ids, StreamOptions}
 use Rattle.jl_rows.specs.Values.{Slots, Position}
 use Rattle.jl_rows.specs.Decoder.{size_of}
 

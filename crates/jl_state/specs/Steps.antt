@@ -4,7 +4,8 @@ use Rattle.jl_base.specs.Results.{◌>>=◌, refuse_if, some_or}
 use Rattle.jl_base.specs.Terms.{Value, Item}
 use Rattle.jl_base.specs.declared.kind.Kind.{Kind}
 use Rattle.jl_base.specs.declared.kind.Kind.TheVariants.{OptionsDiffer, WrongRow, BadEntry, NoTerm, NoGraph, GraphOpen}
-use Rattle.jl_rows.specs.Written.{Ids, Term, StreamOptions, Table, Row}
+use Rattle.jl_rows.specs.declared.row.Table.{Table}
+use Rattle.jl_rows.specs.Written.{Ids, Term, StreamOptions, Row}
 use Rattle.jl_rows.specs.Values.{Slots, filled, prefix_text, tail_of}
 use Rattle.jl_rows.specs.Decoder.{is_same, is_graphs, is_wrong_row, stated}
 use Rattle.jl_state.specs.States.{State, table_of, entry_of, slots_in}

@@ -1,3 +1,13 @@
+//! The state that a decoder keeps while it goes through the rows of a file, and what one row does to it.
+//!
+//! It promises that a step is exactly the one of the definitions, and its laws that a state which stands for the rows
+//! so far stands, after a step, for these and the next row. It stands on jl_rows, and on jl_text for what an entry's
+//! text needs once it is written.
 #![tactic(auto)]
 
+mod extent;
+mod known;
 pub mod laws;
+
+pub use extent::Extent;
+pub use known::{Known, KnownTail, KnownThree};

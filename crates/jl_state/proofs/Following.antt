@@ -131,9 +131,9 @@ module _ (o : StreamOptions) (s : State) (H : History) (h : Stands o s H) where
   unfolding slot seen_in last_term open_graph
   after_entry Table.Name id text fits = record {
     sizes = each_table (λ t. length (table_of (entered Table.Name (id_after id s.name_entry) text s) t) ≡ size_of o t + 1)
-      (length-set s.names (id_after id s.name_entry) (Some text) ∙ h.sizes Table.Name) (h.sizes Table.Prefix) (h.sizes Table.Datatype);
+      (length-set s.tables.names (id_after id s.name_entry) (Some text) ∙ h.sizes Table.Name) (h.sizes Table.Prefix) (h.sizes Table.Datatype);
     slots = each_table (λ t. (n : ℕ) → slots_in (entered Table.Name (id_after id s.name_entry) text s) t n ≡ slot t n (Row.Entry Table.Name id text ∷ H))
-      (λ n. slot_entered s.names _ _ n text _ (entry_id_is Table.Name id text) fits (h.slots Table.Name n)) (h.slots Table.Prefix) (h.slots Table.Datatype);
+      (λ n. slot_entered s.tables.names _ _ n text _ (entry_id_is Table.Name id text) fits (h.slots Table.Name n)) (h.slots Table.Prefix) (h.slots Table.Datatype);
     entries = each_table (λ t. entry_of (entered Table.Name (id_after id s.name_entry) text s) t ≡ entry_id t (Row.Entry Table.Name id text ∷ H))
       (sym (entry_id_is Table.Name id text)) (h.entries Table.Prefix) (h.entries Table.Datatype);
     ids = h.ids;
@@ -142,9 +142,9 @@ module _ (o : StreamOptions) (s : State) (H : History) (h : Stands o s H) where
   }
   after_entry Table.Prefix id text fits = record {
     sizes = each_table (λ t. length (table_of (entered Table.Prefix (id_after id s.prefix_entry) text s) t) ≡ size_of o t + 1)
-      (h.sizes Table.Name) (length-set s.prefixes (id_after id s.prefix_entry) (Some text) ∙ h.sizes Table.Prefix) (h.sizes Table.Datatype);
+      (h.sizes Table.Name) (length-set s.tables.prefixes (id_after id s.prefix_entry) (Some text) ∙ h.sizes Table.Prefix) (h.sizes Table.Datatype);
     slots = each_table (λ t. (n : ℕ) → slots_in (entered Table.Prefix (id_after id s.prefix_entry) text s) t n ≡ slot t n (Row.Entry Table.Prefix id text ∷ H))
-      (h.slots Table.Name) (λ n. slot_entered s.prefixes _ _ n text _ (entry_id_is Table.Prefix id text) fits (h.slots Table.Prefix n)) (h.slots Table.Datatype);
+      (h.slots Table.Name) (λ n. slot_entered s.tables.prefixes _ _ n text _ (entry_id_is Table.Prefix id text) fits (h.slots Table.Prefix n)) (h.slots Table.Datatype);
     entries = each_table (λ t. entry_of (entered Table.Prefix (id_after id s.prefix_entry) text s) t ≡ entry_id t (Row.Entry Table.Prefix id text ∷ H))
       (h.entries Table.Name) (sym (entry_id_is Table.Prefix id text)) (h.entries Table.Datatype);
     ids = h.ids;
@@ -153,9 +153,9 @@ module _ (o : StreamOptions) (s : State) (H : History) (h : Stands o s H) where
   }
   after_entry Table.Datatype id text fits = record {
     sizes = each_table (λ t. length (table_of (entered Table.Datatype (id_after id s.datatype_entry) text s) t) ≡ size_of o t + 1)
-      (h.sizes Table.Name) (h.sizes Table.Prefix) (length-set s.datatypes (id_after id s.datatype_entry) (Some text) ∙ h.sizes Table.Datatype);
+      (h.sizes Table.Name) (h.sizes Table.Prefix) (length-set s.tables.datatypes (id_after id s.datatype_entry) (Some text) ∙ h.sizes Table.Datatype);
     slots = each_table (λ t. (n : ℕ) → slots_in (entered Table.Datatype (id_after id s.datatype_entry) text s) t n ≡ slot t n (Row.Entry Table.Datatype id text ∷ H))
-      (h.slots Table.Name) (h.slots Table.Prefix) (λ n. slot_entered s.datatypes _ _ n text _ (entry_id_is Table.Datatype id text) fits (h.slots Table.Datatype n));
+      (h.slots Table.Name) (h.slots Table.Prefix) (λ n. slot_entered s.tables.datatypes _ _ n text _ (entry_id_is Table.Datatype id text) fits (h.slots Table.Datatype n));
     entries = each_table (λ t. entry_of (entered Table.Datatype (id_after id s.datatype_entry) text s) t ≡ entry_id t (Row.Entry Table.Datatype id text ∷ H))
       (h.entries Table.Name) (h.entries Table.Prefix) (sym (entry_id_is Table.Datatype id text));
     ids = h.ids;

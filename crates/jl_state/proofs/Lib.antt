@@ -1,4 +1,5 @@
 pub mod Binds
+pub mod Marks
 pub mod Looks
 pub mod Following
 pub mod StepLaw

@@ -11,10 +11,13 @@ use Rattle.jl_rows.specs.Decoder.{size_of}
 abbrev pub Filling : Type 0
 Filling = List (Option (List ℕ))
 
-pub record State : Type 0 where
+pub record Tables : Type 0 where
   pub names : Filling
   pub prefixes : Filling
   pub datatypes : Filling
+
+pub record State : Type 0 where
+  pub tables : Tables
   pub name_entry : ℕ
   pub prefix_entry : ℕ
   pub datatype_entry : ℕ
@@ -25,10 +28,13 @@ pub record State : Type 0 where
   pub graph : Option Value
   pub open_graph : Option Value
 
+abbrev pub table_in : Tables → Table → Filling
+table_in ts Table.Name = ts.names
+table_in ts Table.Prefix = ts.prefixes
+table_in ts Table.Datatype = ts.datatypes
+
 abbrev pub table_of : State → Table → Filling
-table_of s Table.Name = s.names
-table_of s Table.Prefix = s.prefixes
-table_of s Table.Datatype = s.datatypes
+table_of s t = table_in s.tables t
 
 -- the id of a table's last entry, 0 before the first
 abbrev pub entry_of : State → Table → ℕ
@@ -42,8 +48,11 @@ term_of s Position.Predicate = s.predicate
 term_of s Position.Object = s.object
 term_of s Position.Graph = s.graph
 
+abbrev pub slots_of_tables : Tables → Slots
+slots_of_tables ts t id = slice_index_or (table_in ts t) id None
+
 abbrev pub slots_in : State → Slots
-slots_in s t id = slice_index_or (table_of s t) id None
+slots_in s = slots_of_tables s.tables
 
 abbrev pub unfilled : StreamOptions → Table → Filling
 unfilled o t = replicate (size_of o t + 1) None
@@ -51,9 +60,7 @@ unfilled o t = replicate (size_of o t + 1) None
 -- before the first row
 abbrev pub opening : StreamOptions → State
 opening o = record {
-  names = unfilled o Table.Name;
-  prefixes = unfilled o Table.Prefix;
-  datatypes = unfilled o Table.Datatype;
+  tables = record { names = unfilled o Table.Name; prefixes = unfilled o Table.Prefix; datatypes = unfilled o Table.Datatype };
   name_entry = 0;
   prefix_entry = 0;
   datatype_entry = 0;

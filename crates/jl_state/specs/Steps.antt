@@ -55,9 +55,9 @@ id_after written last = if written == 0 then last + 1 else written
 
 -- a table with one more entry
 abbrev pub entered : Table → ℕ → List ℕ → State → State
-entered Table.Name id text s = record s { names = slice_set s.names id (Some text); name_entry = id }
-entered Table.Prefix id text s = record s { prefixes = slice_set s.prefixes id (Some text); prefix_entry = id }
-entered Table.Datatype id text s = record s { datatypes = slice_set s.datatypes id (Some text); datatype_entry = id }
+entered Table.Name id text s = record s { tables = record s.tables { names = slice_set s.tables.names id (Some text) }; name_entry = id }
+entered Table.Prefix id text s = record s { tables = record s.tables { prefixes = slice_set s.tables.prefixes id (Some text) }; prefix_entry = id }
+entered Table.Datatype id text s = record s { tables = record s.tables { datatypes = slice_set s.tables.datatypes id (Some text) }; datatype_entry = id }
 
 -- an entry whose id is in the table
 abbrev pub entry_step : Table → ℕ → List ℕ → State → Result State Kind

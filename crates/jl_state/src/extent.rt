@@ -1,9 +1,10 @@
 //! Where a text lies, in eight bytes, with what is known of how it is written.
-ghost use Rattle.std.specs.Prelude.{◌≡◌, ◌+◌, ◌<◌, ◌≤◌, ◌^◌, length};
+ghost use Rattle.std.specs.Prelude.{◌≡◌, ◌≢◌, ◌↔◌, ◌≤◌, ◌^◌, ℕ, List, IsTrue, length};
 ghost use Rattle.jl_base.specs.Spans.{text_of, IsInside};
-ghost use Rattle.jl_state.specs.Extents.{text_in, slot_seen, place_of, IsSound, IsHeld};
+ghost use Rattle.jl_state.specs.Extents.{text_in, slot_seen, mark_of, IsFilled, IsMark, IsSound, IsHeld, IsEmpty};
 
 use jl_base::Span;
+use jl_text::{is_clean_iri, is_xsd_string};
 
 /// Where a text lies in a file of at most 2^30 bytes. The two bits of `at` above its place say how an IRI of this text
 /// is written: 0 as it is, 1 perhaps with escapes, 2 as it is, and it is xsd:string. A length of 2^32 - 1 is a slot
@@ -12,4 +13,104 @@ use jl_base::Span;
 pub struct Extent {
     at: u32,
     len: u32,
+}
+
+/// A slot that isn't filled.
+pub(crate) const UNFILLED: Extent = Extent {
+    at: 0,
+    len: u32::MAX,
+};
+
+const MARK: u32 = 1 << 30;
+const ESCAPED: u32 = 1;
+const XSD_STRING: u32 = 2;
+
+impl Extent {
+    /// No text at all, as the prefix has before any prefix id.
+    pub fn empty() -> Extent
+        ensures { IsEmpty result }
+    {
+        Extent { at: 0, len: 0 }
+    }
+
+    /// A text of which nothing is known but where it lies.
+    pub fn of(bytes: &[u8], span: Span) -> Extent
+        requires inside { IsInside bytes.now span }
+        requires short { length bytes.now ≤ 2 ^ 30 }
+        ensures text { text_in bytes.now result ≡ text_of bytes.now span }
+        ensures held { IsHeld bytes.now result }
+    {
+        if span.len == 0 {
+            return Extent { at: 0, len: 0 };
+        }
+        Extent {
+            at: span.at as u32 + MARK * ESCAPED,
+            len: span.len,
+        }
+    }
+
+    /// A text, with what is found of how it is written.
+    pub fn marked(bytes: &[u8], span: Span) -> Extent
+        requires inside { IsInside bytes.now span }
+        requires short { length bytes.now ≤ 2 ^ 30 }
+        ensures text { text_in bytes.now result ≡ text_of bytes.now span }
+        ensures sound { IsSound bytes.now result }
+        ensures filled { IsFilled result }
+    {
+        if span.len == 0 {
+            return Extent { at: 0, len: 0 };
+        }
+        let at = span.at as usize;
+        let text = &bytes[at..at + span.len as usize];
+        Extent {
+            at: span.at as u32 + MARK * mark(text),
+            len: span.len,
+        }
+    }
+
+    /// Where the text lies.
+    #[inline]
+    pub fn span(self) -> Span
+        ensures text { (bytes : List ℕ) → text_of bytes result ≡ text_in bytes self }
+        ensures inside { (bytes : List ℕ) → IsHeld bytes self → IsInside bytes result }
+    {
+        Span {
+            at: u64::from(self.at % MARK),
+            len: self.len,
+        }
+    }
+
+    /// An IRI of this text is written as it is.
+    #[inline]
+    pub fn is_clean(self) -> bool
+        ensures { IsTrue result ↔ (mark_of self ≢ 1) }
+    {
+        self.at / MARK != ESCAPED
+    }
+
+    /// The text is xsd:string.
+    #[inline]
+    pub fn is_xsd_string(self) -> bool
+        ensures { IsTrue result ↔ (mark_of self ≡ 2) }
+    {
+        self.at / MARK == XSD_STRING
+    }
+
+    /// The slot is filled.
+    #[inline]
+    pub(crate) fn is_filled(self) -> bool
+        ensures { IsTrue result ↔ IsFilled self }
+    {
+        self.len != u32::MAX
+    }
+}
+
+// What is known of how an IRI of this text is written.
+fn mark(text: &[u8]) -> u32
+    ensures { IsMark text.now result }
+{
+    if is_xsd_string(text) {
+        return XSD_STRING;
+    }
+    if is_clean_iri(text) { 0 } else { ESCAPED }
 }

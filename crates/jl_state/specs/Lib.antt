@@ -3,3 +3,4 @@ pub mod Steps
 pub mod Stands
 pub mod Extents
 pub mod KnownTerms
+pub mod Seen

@@ -7,7 +7,10 @@
 
 mod extent;
 mod known;
+mod tables;
+mod tag;
 pub mod laws;
 
 pub use extent::Extent;
+pub use tables::{LastIds, Tables};
 pub use known::{Known, KnownTail, KnownThree};

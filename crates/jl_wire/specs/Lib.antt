@@ -1,3 +1,4 @@
 pub mod Varint
+pub mod Refusals
 pub mod Fields
 pub mod Seen

@@ -25,7 +25,7 @@ pub struct Field {
 }
 
 /// The field at a place of a message that ends at `end`, or None at its end. The place after the field is where the
-/// next one begins.
+/// next one begins. It is put into its caller, where a field then stays in registers.
 #[inline(always)]
 pub fn next_field(bytes: &[u8], at: usize, end: usize) -> Result<Option<Field>, Kind>
     requires start { at ≤ end }
@@ -106,7 +106,8 @@ fn counted_bytes(bytes: &[u8], at: usize, end: usize) -> Result<(Value, usize), 
     ))
 }
 
-// Eight bytes as a number, the least first, and the place after them.
+// Eight bytes as a number, the least first, and the place after them. No field of Jelly has them, so they stay out of
+// the way.
 #[inline(never)]
 fn eight_bytes(bytes: &[u8], at: usize, end: usize) -> Result<(u64, usize), Kind>
     requires start { at ≤ end }

@@ -11,5 +11,5 @@ mod tests;
 mod text;
 
 pub use field::{Field, Value, next_field};
-pub use number::varint;
+pub use number::{varint, varint_refusals};
 pub use text::utf8;

@@ -1,11 +1,12 @@
 ghost use Rattle.std.specs.Prelude.{◌≡◌, ◌+◌, ◌-◌, ◌<◌, ◌≤◌, IfOk, length, slice_range};
 ghost use Rattle.jl_base.specs.Results.{Gives};
+ghost use Rattle.jl_wire.specs.Refusals.{RefusesExactly};
 ghost use Rattle.jl_wire.specs.Varint as spec;
 
 use jl_base::Kind;
 
 /// The varint at the front of a range of bytes, and the place after it. Spellings longer than they need be are read
-/// as well.
+/// as well. Nearly all in a file take one byte, and the ids of large tables two: these are read in the caller's place.
 #[inline(always)]
 pub fn varint(bytes: &[u8], at: usize, end: usize) -> Result<(u64, usize), Kind>
     requires start { at ≤ end }
@@ -68,3 +69,9 @@ fn leading(bytes: &[u8]) -> Result<(u64, usize), Kind>
     }
     Ok((value + u64::from(tenth) * scale, 10))
 }
+
+/// A law of the definition, and no work: a varint is refused exactly where fewer than ten bytes are there and all are
+/// continued, or where nine are and the tenth is above 1.
+pub fn varint_refusals(bytes: &[u8])
+    ensures { RefusesExactly bytes.now }
+{}

@@ -7,7 +7,8 @@ ghost use Rattle.jl_base.specs.Spans.{IsInside, text_of};
 use jl_base::{Kind, Span};
 use std::simd::prelude::*;
 
-/// Whether the bytes of a span are UTF-8.
+/// Whether the bytes of a span are UTF-8: BadUtf8 where they aren't. A short text without a byte above 127 is found by
+/// one look at sixteen bytes.
 #[inline]
 pub fn utf8(bytes: &[u8], span: Span) -> Result<(), Kind>
     requires { IsInside bytes.now span }

@@ -4,3 +4,4 @@ pub mod Stands
 pub mod Extents
 pub mod KnownTerms
 pub mod Seen
+pub mod Answers

@@ -7,10 +7,13 @@
 
 mod extent;
 mod known;
+mod look;
+mod stop;
 mod tables;
 mod tag;
 pub mod laws;
 
 pub use extent::Extent;
+pub use stop::Stop;
 pub use tables::{LastIds, Tables};
 pub use known::{Known, KnownTail, KnownThree};

@@ -1,6 +1,7 @@
 //! The slots of the lookup tables.
-ghost use Rattle.std.specs.Prelude.{◌≡◌, ◌<◌, ◌≤◌, ◌^◌, ◌++◌, None, IfOk, length, map, slice_index_or};
+ghost use Rattle.std.specs.Prelude.{◌≡◌, ◌<◌, ◌≤◌, ◌^◌, ◌++◌, None, IfOk, OnOk, length, map, slice_index_or};
 ghost use Rattle.jl_base.specs.Results.{Gives, some_or};
+ghost use Rattle.jl_rows.specs.Decoder as rows_decoder;
 ghost use Rattle.jl_rows.specs.Seen as rows;
 ghost use Rattle.jl_rows.specs.Values as values;
 ghost use Rattle.jl_state.specs.KnownTerms.{tail_value, HasTail};
@@ -43,6 +44,7 @@ impl Lookup<'_> {
         ensures exact { Gives (text_in self.now.bytes.now) result
             (some_or (slice_index_or (map (slot_seen self.now.bytes.now) slots.now) id None) Kind.NoEntry) }
         ensures sound { IfOk result (IsSound self.now.bytes.now) }
+        ensures below { OnOk result (id < length slots.now) }
     {
         if id >= slots.len() as u64 {
             return Err(Kind::NoEntry);
@@ -76,6 +78,7 @@ impl Lookup<'_> {
         ensures exact { Gives (λ i. text_in self.now.bytes.now i.0 ++ text_in self.now.bytes.now i.1) result
             (steps.text_at (slots_seen self.now.bytes.now self.now.tables.now) (ids_seen ids)) }
         ensures sound { IfOk result (HasIri self.now.bytes.now) }
+        ensures below { OnOk result (ids.name ≤ rows_decoder.most_entries) }
     {
         let prefix = self.prefix(ids.prefix)?;
         let name = self.filled(&self.tables.names, ids.name)?;
@@ -84,7 +87,7 @@ impl Lookup<'_> {
 
     // The end of a literal.
     #[inline]
-    fn tail(&self, tail: RawTail) -> Result<KnownTail, Kind>
+    pub fn tail(&self, tail: RawTail) -> Result<KnownTail, Kind>
         requires tables { AreTables self.now.bytes.now self.now.tables.now }
         requires inside { rows.HasTail self.now.bytes.now tail }
         requires short { length self.now.bytes.now ≤ 2 ^ 30 }

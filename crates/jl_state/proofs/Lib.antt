@@ -1,5 +1,6 @@
 pub mod Binds
 pub mod Marks
+pub mod Slots
 pub mod Looks
 pub mod Following
 pub mod StepLaw

@@ -5,3 +5,4 @@ pub mod Extents
 pub mod KnownTerms
 pub mod Seen
 pub mod Answers
+pub mod Lawful

@@ -1,5 +1,7 @@
 -- What the code's state stands for: its texts in place of where they lie.
-use Rattle.std.specs.Prelude.{◌≡◌, ℕ, ◌+◌, ◌<◌, ◌≤◌, ◌^◌, List, map, length, Option, Some, None}
+use Rattle.std.specs.Prelude.{◌≡◌, ℕ, ◌+◌, ◌<◌, ◌≤◌, ◌^◌, List, map, length, slice_set, Option, Some, None, Result, Ok, Err}
+use Rattle.jl_base.specs.declared.kind.Kind.{Kind}
+use Rattle.jl_base.specs.declared.kind.Kind.TheVariants.{BadEntry}
 use Rattle.jl_rows.specs.declared.row.Table.{Table}
 use Rattle.jl_rows.specs.declared.row.RawTerm.{RawTerm}
 use Rattle.jl_rows.specs.declared.row.RawTerm.TheVariants as raws
@@ -40,3 +42,8 @@ HasIri bytes i = IsSound bytes i.0 × IsSound bytes i.1
 abbrev pub IsLeaf : RawTerm → Type 0
 IsLeaf (raws.Triple span) = ⊥
 IsLeaf _ = Unit {0}
+
+-- what an entry of this id does to a table: its slot is filled and its id is the last one, or the id is above the table
+abbrev pub Enters : List ℕ → ℕ → List ℕ → List Extent → List Extent → ℕ → Result (Unit {0}) Kind → Type 0
+Enters bytes id text old new last (Ok _) = (id < length old) × (map (slot_seen bytes) new ≡ slice_set (map (slot_seen bytes) old) id (Some text)) × (last ≡ id) × (length new ≡ length old)
+Enters bytes id text old new last (Err kind) = (length old ≤ id) × (kind ≡ BadEntry)

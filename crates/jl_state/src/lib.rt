@@ -8,12 +8,16 @@
 mod extent;
 mod known;
 mod look;
+mod state;
+mod step;
 mod stop;
 mod tables;
 mod tag;
 pub mod laws;
 
 pub use extent::Extent;
+pub use state::State;
+pub use step::Stated;
 pub use stop::Stop;
 pub use tables::{LastIds, Tables};
 pub use known::{Known, KnownTail, KnownThree};

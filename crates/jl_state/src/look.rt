@@ -5,6 +5,7 @@ ghost use Rattle.jl_rows.specs.Seen as rows;
 ghost use Rattle.jl_state.specs.Steps as steps;
 ghost use Rattle.jl_state.specs.Answers.{Looks};
 ghost use Rattle.jl_state.specs.KnownTerms.{HasKnown};
+ghost use Rattle.jl_state.specs.Lawful.{maybe_value, HasMaybe, Places};
 ghost use Rattle.jl_state.specs.Seen.{slots_seen, ids_seen, AreTables, IsLeaf};
 
 use crate::known::Known;
@@ -12,6 +13,7 @@ use crate::tables::{LastIds, Lookup};
 use crate::{Extent, Stop};
 use jl_base::Kind;
 use jl_rows::RawTerm;
+use std::alloc::Global;
 
 impl Lookup<'_> {
     /// A term that is no triple term, with the last ids behind it. It takes no memory.
@@ -42,5 +44,46 @@ impl Lookup<'_> {
             RawTerm::Default => Ok(Known::Default),
             RawTerm::Triple(_) => unreachable!(),
         }
+    }
+
+    /// A term at a position: the row's own, or the last one there again. On a stop nothing is promised of both.
+    pub fn place(&self, alloc: Global, last: &mut LastIds, before: &mut Option<Known>, raw: Option<RawTerm>) -> Result<(), Stop>
+        requires tables { AreTables self.now.bytes.now self.now.tables.now }
+        requires inside { rows.HasPosition self.now.bytes.now raw }
+        requires before { HasMaybe self.now.bytes.now before.old }
+        requires short { length self.now.bytes.now ≤ 2 ^ 30 }
+        requires small { last.old.name ≤ decoder.most_entries }
+        ensures exact { Places self.now.bytes.now
+            (steps.placed (slots_seen self.now.bytes.now self.now.tables.now) (ids_seen last.old)
+                (maybe_value self.now.bytes.now before.old) (rows.position_seen self.now.bytes.now raw)) before.new last.new result }
+        ensures sound { OnOk result (HasMaybe self.now.bytes.now before.new) }
+        ensures small { OnOk result (last.new.name ≤ decoder.most_entries) }
+    {
+        let Some(raw) = raw else {
+            if before.is_none() {
+                return Err(Stop::Fault(Kind::NoTerm));
+            }
+            return Ok(());
+        };
+        let known = self.term(alloc, last, raw)?;
+        *before = Some(known);
+        Ok(())
+    }
+
+    pub fn term(&self, alloc: Global, last: &mut LastIds, raw: RawTerm) -> Result<Known, Stop>
+        requires tables { AreTables self.now.bytes.now self.now.tables.now }
+        requires inside { rows.HasTerm self.now.bytes.now raw }
+        requires short { length self.now.bytes.now ≤ 2 ^ 30 }
+        requires small { last.old.name ≤ decoder.most_entries }
+        ensures exact { Looks self.now.bytes.now
+            (steps.looked (slots_seen self.now.bytes.now self.now.tables.now) (ids_seen last.old) (rows.term_seen self.now.bytes.now raw)) last.new result }
+        ensures sound { IfOk result (HasKnown self.now.bytes.now) }
+        ensures small { OnOk result (last.new.name ≤ decoder.most_entries) }
+    {
+        let _ = alloc;
+        if let RawTerm::Triple(_) = raw {
+            return Err(Stop::NoMemory);
+        }
+        self.leaf(last, raw)
     }
 }

@@ -1,6 +1,22 @@
 //! One row's step from a state.
-use crate::Extent;
-use jl_base::Span;
+ghost use Rattle.std.specs.Prelude.{◌≡◌, ◌≤◌, ◌^◌, OnOk, length, true, false, ◌==◌, ◌&&◌, is_none};
+ghost use Rattle.std.specs.Option.{option_map};
+ghost use Rattle.jl_base.specs.Spans.{IsInside, text_of};
+ghost use Rattle.jl_rows.specs.Decoder as decoder;
+ghost use Rattle.jl_rows.specs.Seen as rows;
+ghost use Rattle.jl_rows.specs.Written as written;
+ghost use Rattle.jl_state.specs.Steps as steps;
+ghost use Rattle.jl_state.specs.Lawful.{state_seen, IsLawful, Steps, HasStated};
+
+
+use crate::state::enter;
+
+use crate::tables::Lookup;
+use crate::{Extent, State, Stop};
+use jl_base::{Kind, Span};
+use jl_rows::{RawIri, RawQuad, RawTerm, RawTriple, Row, Table};
+use std::alloc::Global;
+
 
 /// What a row states. A statement's terms are the state's last ones, with its open graph where the file has graphs.
 #[derive(Clone, Copy, Debug)]
@@ -8,4 +24,136 @@ pub enum Stated {
     Nothing,
     Statement,
     Namespace { name: Span, prefix: Extent, iri: Extent },
+}
+
+impl State {
+    // An entry of a table.
+    fn enter(&mut self, bytes: &[u8], table: Table, id: u32, text: Span) -> Result<Stated, Stop>
+        requires lawful { IsLawful bytes.now self.old }
+        requires inside { IsInside bytes.now text }
+        requires short { length bytes.now ≤ 2 ^ 30 }
+        ensures exact { Steps bytes.now (rows.options_seen bytes.now self.old.options)
+            (steps.row_step (rows.options_seen bytes.now self.old.options) (written.Entry table id (text_of bytes.now text)) (state_seen bytes.now self.old)) self.new result }
+        ensures lawful { OnOk result (IsLawful bytes.now self.new) }
+        ensures options { self.new.options ≡ self.old.options }
+    {
+        match table {
+            Table::Name => enter(&mut self.tables.names, &mut self.name_entry, bytes, id, text)?,
+            Table::Prefix => enter(&mut self.tables.prefixes, &mut self.prefix_entry, bytes, id, text)?,
+            Table::Datatype => enter(&mut self.tables.datatypes, &mut self.datatype_entry, bytes, id, text)?,
+        }
+        Ok(Stated::Nothing)
+    }
+
+    // A triple of a GRAPHS file has no graph to stand in.
+    fn lacks_graph(&self) -> bool
+        ensures { result ≡ ((self.now.options.physical == 3) && is_none self.now.open_graph) }
+    {
+        self.options.physical == 3 && self.open_graph.is_none()
+    }
+
+    fn triple(&mut self, alloc: Global, bytes: &[u8], t: &RawTriple) -> Result<Stated, Stop>
+        requires lawful { IsLawful bytes.now self.old }
+        requires inside { rows.HasTriple bytes.now t.now }
+        requires form { decoder.is_quads (rows.options_seen bytes.now self.old.options) ≡ false }
+        requires short { length bytes.now ≤ 2 ^ 30 }
+        ensures exact { Steps bytes.now (rows.options_seen bytes.now self.old.options)
+            (steps.row_step (rows.options_seen bytes.now self.old.options) (rows.row_seen bytes.now (Row.Triple t.now)) (state_seen bytes.now self.old)) self.new result }
+        ensures lawful { OnOk result (IsLawful bytes.now self.new) }
+        ensures options { self.new.options ≡ self.old.options }
+    {
+        if self.lacks_graph() {
+            return Err(Stop::Fault(Kind::NoGraph));
+        }
+        let lookup = Lookup {
+            bytes,
+            tables: &self.tables,
+        };
+        lookup.place(alloc, &mut self.last, &mut self.subject, t.s)?;
+        lookup.place(alloc, &mut self.last, &mut self.predicate, t.p)?;
+        lookup.place(alloc, &mut self.last, &mut self.object, t.o)?;
+        Ok(Stated::Statement)
+    }
+
+    fn quad(&mut self, alloc: Global, bytes: &[u8], t: &RawQuad) -> Result<Stated, Stop>
+        requires lawful { IsLawful bytes.now self.old }
+        requires inside { rows.HasRow bytes.now (Row.Quad t.now) }
+        requires form { decoder.is_quads (rows.options_seen bytes.now self.old.options) ≡ true }
+        requires short { length bytes.now ≤ 2 ^ 30 }
+        ensures exact { Steps bytes.now (rows.options_seen bytes.now self.old.options)
+            (steps.row_step (rows.options_seen bytes.now self.old.options) (rows.row_seen bytes.now (Row.Quad t.now)) (state_seen bytes.now self.old)) self.new result }
+        ensures lawful { OnOk result (IsLawful bytes.now self.new) }
+        ensures options { self.new.options ≡ self.old.options }
+    {
+        let lookup = Lookup {
+            bytes,
+            tables: &self.tables,
+        };
+        lookup.place(alloc, &mut self.last, &mut self.subject, t.s)?;
+        lookup.place(alloc, &mut self.last, &mut self.predicate, t.p)?;
+        lookup.place(alloc, &mut self.last, &mut self.object, t.o)?;
+        lookup.place(alloc, &mut self.last, &mut self.graph, t.g)?;
+        Ok(Stated::Statement)
+    }
+
+    fn graph_start(&mut self, alloc: Global, bytes: &[u8], g: Option<RawTerm>) -> Result<Stated, Stop>
+        requires lawful { IsLawful bytes.now self.old }
+        requires inside { rows.HasPosition bytes.now g }
+        requires short { length bytes.now ≤ 2 ^ 30 }
+        ensures exact { Steps bytes.now (rows.options_seen bytes.now self.old.options)
+            (steps.row_step (rows.options_seen bytes.now self.old.options) (rows.row_seen bytes.now (Row.GraphStart g)) (state_seen bytes.now self.old)) self.new result }
+        ensures lawful { OnOk result (IsLawful bytes.now self.new) }
+        ensures options { self.new.options ≡ self.old.options }
+    {
+        if self.open_graph.is_some() {
+            return Err(Stop::Fault(Kind::GraphOpen));
+        }
+        let Some(g) = g else {
+            return Err(Stop::Fault(Kind::NoTerm));
+        };
+        let lookup = Lookup {
+            bytes,
+            tables: &self.tables,
+        };
+        let graph = lookup.term(alloc, &mut self.last, g)?;
+        self.open_graph = Some(graph);
+        Ok(Stated::Nothing)
+    }
+
+    fn graph_end(&mut self, bytes: &[u8]) -> Result<Stated, Stop>
+        requires lawful { IsLawful bytes.now self.old }
+        requires short { length bytes.now ≤ 2 ^ 30 }
+        ensures exact { Steps bytes.now (rows.options_seen bytes.now self.old.options)
+            (steps.row_step (rows.options_seen bytes.now self.old.options) written.GraphEnd (state_seen bytes.now self.old)) self.new result }
+        ensures lawful { OnOk result (IsLawful bytes.now self.new) }
+        ensures options { self.new.options ≡ self.old.options }
+    {
+        if self.open_graph.is_none() {
+            return Err(Stop::Fault(Kind::NoGraph));
+        }
+        self.open_graph = None;
+        Ok(Stated::Nothing)
+    }
+
+    fn namespace(&mut self, bytes: &[u8], name: Span, iri: Option<RawIri>) -> Result<Stated, Stop>
+        requires lawful { IsLawful bytes.now self.old }
+        requires inside { IsInside bytes.now name }
+        requires short { length bytes.now ≤ 2 ^ 30 }
+        ensures exact { Steps bytes.now (rows.options_seen bytes.now self.old.options)
+            (steps.row_step (rows.options_seen bytes.now self.old.options) (written.Namespace (text_of bytes.now name) (option_map rows.ids_seen iri)) (state_seen bytes.now self.old)) self.new result }
+        ensures lawful { OnOk result (IsLawful bytes.now self.new) }
+        ensures options { self.new.options ≡ self.old.options }
+    {
+        let Some(iri) = iri else {
+            return Err(Stop::Fault(Kind::NoTerm));
+        };
+        let lookup = Lookup {
+            bytes,
+            tables: &self.tables,
+        };
+        let ids = self.last.after(iri);
+        let (prefix, iri) = lookup.iri(ids)?;
+        self.last = ids;
+        Ok(Stated::Namespace { name, prefix, iri })
+    }
 }

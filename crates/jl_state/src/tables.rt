@@ -31,6 +31,7 @@ pub struct LastIds {
 }
 
 /// The tables over the bytes in which their texts lie.
+#[derive(Clone, Copy)]
 pub(crate) struct Lookup<'a> {
     pub bytes: &'a [u8],
     pub tables: &'a Tables,

@@ -1,0 +1,25 @@
+use Rattle.std.proofs.Common.{◌≡◌, ◌∙◌, sym, ap, Some, Ok, Err}
+use Rattle.std.proofs.lemmas.Result.{err_from_is_err_and}
+use Rattle.jl_rows.specs.Seen.{options_seen, position_seen}
+use Rattle.jl_state.specs.Seen.{ids_seen}
+use Rattle.jl_state.specs.Lawful.{state_seen, maybe_value}
+use Rattle.jl_state.proofs.Statements.{quad_one, quad_two, quad_three, quad_four, stops_on}
+use Rattle.jl_state.proofs.state.State.quad.Goals as goal
+
+pub returns-in_err-place-2-clause-exact : goal.returns-in_err-place-2-clause-exact
+returns-in_err-place-2-clause-exact c =
+    let p = err_from_is_err_and c.from_residual-in_err-place-2.result c.from_residual-in_err-place-2.ensures.1 in
+    rw (p.1, p.2) (stops_on _ _ _ (λ k e. quad_one (options_seen c.args.bytes.now c.args.self.now.options) (state_seen c.args.bytes.now c.args.self.now) (position_seen c.args.bytes.now c.args.t.now.s) (position_seen c.args.bytes.now c.args.t.now.p) (position_seen c.args.bytes.now c.args.t.now.o) (position_seen c.args.bytes.now c.args.t.now.g) (maybe_value c.args.bytes.now c.place.new.before) (ids_seen c.place.new.last) k c.in_ok-place.ensures.exact e) c.in_err-place-2.ensures.exact)
+
+pub returns-in_err-place-3-clause-exact : goal.returns-in_err-place-3-clause-exact
+returns-in_err-place-3-clause-exact c =
+    let p = err_from_is_err_and c.from_residual-in_err-place-3.result c.from_residual-in_err-place-3.ensures.1 in
+    rw (p.1, p.2) (stops_on _ _ _ (λ k e. quad_two (options_seen c.args.bytes.now c.args.self.now.options) (state_seen c.args.bytes.now c.args.self.now) (position_seen c.args.bytes.now c.args.t.now.s) (position_seen c.args.bytes.now c.args.t.now.p) (position_seen c.args.bytes.now c.args.t.now.o) (position_seen c.args.bytes.now c.args.t.now.g) (maybe_value c.args.bytes.now c.place.new.before) (maybe_value c.args.bytes.now c.place-2.new.before) (ids_seen c.place.new.last) (ids_seen c.place-2.new.last) k c.in_ok-place.ensures.exact c.in_ok-place-2.ensures.exact e) c.in_err-place-3.ensures.exact)
+
+pub returns-in_err-place-4-clause-exact : goal.returns-in_err-place-4-clause-exact
+returns-in_err-place-4-clause-exact c =
+    let p = err_from_is_err_and c.from_residual-in_err-place-4.result c.from_residual-in_err-place-4.ensures.1 in
+    rw (p.1, p.2) (stops_on _ _ _ (λ k e. quad_three (options_seen c.args.bytes.now c.args.self.now.options) (state_seen c.args.bytes.now c.args.self.now) (position_seen c.args.bytes.now c.args.t.now.s) (position_seen c.args.bytes.now c.args.t.now.p) (position_seen c.args.bytes.now c.args.t.now.o) (position_seen c.args.bytes.now c.args.t.now.g) (maybe_value c.args.bytes.now c.place.new.before) (maybe_value c.args.bytes.now c.place-2.new.before) (maybe_value c.args.bytes.now c.place-3.new.before) (ids_seen c.place.new.last) (ids_seen c.place-2.new.last) (ids_seen c.place-3.new.last) k c.in_ok-place.ensures.exact c.in_ok-place-2.ensures.exact c.in_ok-place-3.ensures.exact e) c.in_err-place-4.ensures.exact)
+
+pub returns-clause-exact : goal.returns-clause-exact
+returns-clause-exact c = quad_four (options_seen c.args.bytes.now c.args.self.now.options) (state_seen c.args.bytes.now c.args.self.now) (position_seen c.args.bytes.now c.args.t.now.s) (position_seen c.args.bytes.now c.args.t.now.p) (position_seen c.args.bytes.now c.args.t.now.o) (position_seen c.args.bytes.now c.args.t.now.g) (maybe_value c.args.bytes.now c.place.new.before) (maybe_value c.args.bytes.now c.place-2.new.before) (maybe_value c.args.bytes.now c.place-3.new.before) (maybe_value c.args.bytes.now c.place-4.new.before) (ids_seen c.place.new.last) (ids_seen c.place-2.new.last) (ids_seen c.place-3.new.last) (ids_seen c.place-4.new.last) c.requires.form c.in_ok-place.ensures.exact c.in_ok-place-2.ensures.exact c.in_ok-place-3.ensures.exact c.in_ok-place-4.ensures.exact

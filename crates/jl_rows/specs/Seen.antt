@@ -178,3 +178,14 @@ IsNextRow bytes at end (Err k) = files.rows (slice_range bytes at end) ≡ recor
 -- a row that was read at a place of a frame
 abbrev pub IsRowWithin : List ℕ → ℕ → ℕ → Row × ℕ → Type 0
 IsRowWithin bytes at end r = (at < r.1) × (r.1 ≤ end) × HasRow bytes r.0
+
+-- What a reader of a file answers at a place of it: nothing more exactly at the end, the next frame's body, or the fault
+-- of what stands there in place of a frame.
+abbrev pub IsNextFrame : List ℕ → ℕ → ℕ → Result (Option (ℕ × ℕ)) Kind → Type 0
+IsNextFrame bytes at end (Ok None) = at ≡ end
+IsNextFrame bytes at end (Ok (Some f)) = files.frames (slice_range bytes at end) ≡ with_front (slice_range bytes f.0 f.1) (files.frames (slice_range bytes f.1 end))
+IsNextFrame bytes at end (Err k) = files.frames (slice_range bytes at end) ≡ record { items = []; fault = Some k }
+
+-- where a frame's body begins and ends, whose length stands at a place of the file
+abbrev pub IsFrameWithin : ℕ → ℕ → ℕ × ℕ → Type 0
+IsFrameWithin at end f = (at < f.0) × (f.0 ≤ f.1) × (f.1 ≤ end)

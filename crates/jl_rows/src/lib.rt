@@ -5,12 +5,15 @@
 //! messages, rows, histories and the decoder. It stands on jl_wire and jl_base.
 #![tactic(auto)]
 
+mod frame;
 mod message;
 mod options;
 mod read;
 mod read_row;
 mod row;
 
+pub use frame::next_frame;
 pub use message::{Known, Message, Shape};
 pub use options::{Options, Physical};
+pub use read_row::next_row_at;
 pub use row::{RawIri, RawQuad, RawTail, RawTerm, RawTriple, Row, Table};

@@ -13,6 +13,8 @@ use Rattle.jl_wire.specs.declared.field.Value.TheVariants as values
 use Rattle.jl_rows.specs.declared.message.Message.{Message}
 use Rattle.jl_rows.specs.declared.message.Shape.{Shape}
 use Rattle.jl_rows.specs.declared.options.Options.{Options}
+use Rattle.jl_rows.specs.declared.options.Physical.{Physical}
+use Rattle.jl_rows.specs.declared.options.Physical.TheVariants as physicals
 use Rattle.jl_rows.specs.declared.row.RawIri.{RawIri}
 use Rattle.jl_rows.specs.declared.row.RawTail.{RawTail}
 use Rattle.jl_rows.specs.declared.row.RawTail.TheVariants as tails
@@ -46,6 +48,11 @@ parts_or_none (Err k) = reading.nothing_said
 abbrev pub nested_at : List ℕ → written.Term
 nested_at text = reading.nested (parts_or_none (reading.read (content_said 31) Message.Triple text))
 
+-- A triple term that was read whole, wherever it stands, is read again without a fault, and says the same.
+abbrev pub ReadsAgain : Type 0
+ReadsAgain = (depth : ℕ) (text : List ℕ) (ps : reading.Parts) → depth ≤ 31 → reading.read (content_said depth) Message.Triple text ≡ Ok ps
+    → (reading.read (content_said 31) Message.Triple text ≡ Ok ps) × (reading.nested ps ≡ nested_at text)
+
 abbrev pub term_seen : List ℕ → RawTerm → written.Term
 term_seen bytes (terms.Iri i) = written.Iri (ids_seen i)
 term_seen bytes (terms.Bnode span) = written.Bnode (text_of bytes span)
@@ -74,6 +81,16 @@ options_seen bytes o = record {
   logical = o.logical;
   version = o.version;
 }
+
+-- a physical type's number
+abbrev pub number_of : Physical → ℕ
+number_of physicals.Triples = 1
+number_of physicals.Quads = 2
+number_of physicals.Graphs = 3
+
+-- the physical type is one of the three
+abbrev pub HasForm : Options → Type 0
+HasForm o = (0 < o.physical) × (o.physical ≤ 3)
 
 abbrev pub row_seen : List ℕ → Row → written.Row
 row_seen bytes (rows.Options o) = written.Options (options_seen bytes o)

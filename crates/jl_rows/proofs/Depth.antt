@@ -41,7 +41,7 @@ walk_more f g more m [] None ps qs e = e
 walk_more f g more m [] (Some k) ps qs e = cc
 walk_more f g more m (x ∷ fs) fault ps qs e =
     bind_more (taken_if_known f (known_as m x.number) x.content ps) (taken_if_known g (known_as m x.number) x.content ps) _ _ qs
-      (λ rs h. maybe_more f g more (known_as m x.number) x.content ps rs h) (λ rs h. walk_more f g more m fs fault rs qs h) e
+    (λ rs h. maybe_more f g more (known_as m x.number) x.content ps rs h) (λ rs h. walk_more f g more m fs fault rs qs h) e
 
 pub read_more : (f g : Says) → AtLeast f g → (m : Message) (bytes : List ℕ) (qs : Parts) → read f m bytes ≡ Ok qs → read g m bytes ≡ Ok qs
 unfolding read_on
@@ -53,7 +53,7 @@ unfolding content_said
 said_more zero Shape.Nested (Content.Bytes t) p e = cc
 said_more (suc depth) Shape.Nested (Content.Bytes t) p e =
     bind_more (read (content_said depth) Message.Triple t) (read (content_said (suc depth)) Message.Triple t) _ _ p
-      (λ ps h. read_more (content_said depth) (content_said (suc depth)) (said_more depth) Message.Triple t ps h) (λ ps h. h) e
+    (λ ps h. read_more (content_said depth) (content_said (suc depth)) (said_more depth) Message.Triple t ps h) (λ ps h. h) e
 said_more zero Shape.Nested (Content.Number n) p e = e
 said_more zero Shape.Nested (Content.Eight n) p e = e
 said_more zero Shape.Nested (Content.Four n) p e = e

@@ -12,7 +12,7 @@ use Rattle.jl_wire.specs.declared.field.Value.TheVariants as values
 use Rattle.jl_rows.specs.declared.message.Message.{Message}
 use Rattle.jl_rows.specs.declared.message.Shape.{Shape}
 use Rattle.jl_rows.specs.Reading.{Part, Parts, read, shallow, content_said, nested}
-use Rattle.jl_rows.specs.Seen.{nested_span, nested_at, parts_or_none}
+use Rattle.jl_rows.specs.Seen.{nested_span, nested_at, parts_or_none, ReadsAgain}
 use Rattle.jl_rows.proofs.Depth.{AtLeast, said_within, read_more}
 
 pub not_nested : (bytes : List ℕ) (depth : ℕ) (s : Shape) (v : Value) → None ≡ nested_span s v → content_said depth s (content_seen bytes v) ≡ shallow s (content_seen bytes v)
@@ -53,8 +53,12 @@ module _ (bytes : List ℕ) (span : Span) where
   one_deeper (suc depth) Shape.Nested (values.Fixed32 n) z e = cc
   one_deeper (suc depth) s v z e = cc
 
--- what was read within a depth is what the term means wherever it stands
-pub read_anywhere : (depth : ℕ) (text : List ℕ) (ps : Parts) → depth ≤ 31 → read (content_said depth) Message.Triple text ≡ Ok ps → nested ps ≡ nested_at text
-read_anywhere depth text ps le e =
+-- what was read within a depth is read again, and is what the term means wherever it stands
+pub reads_again : ReadsAgain
+reads_again depth text ps le e =
     let more : AtLeast (content_said depth) (content_said 31) = let same : (31 - depth) + depth ≡ 31 = omega arith in subst (λ (n : ℕ). AtLeast (content_said depth) (content_said n)) same (said_within (31 - depth) depth) in
-    ap (λ (r : Result Parts Kind). nested (parts_or_none r)) (sym (read_more (content_said depth) (content_said 31) more Message.Triple text ps e))
+    let again : read (content_said 31) Message.Triple text ≡ Ok ps = read_more (content_said depth) (content_said 31) more Message.Triple text ps e in
+    (again, ap (λ (r : Result Parts Kind). nested (parts_or_none r)) (sym again))
+
+pub read_anywhere : (depth : ℕ) (text : List ℕ) (ps : Parts) → depth ≤ 31 → read (content_said depth) Message.Triple text ≡ Ok ps → nested ps ≡ nested_at text
+read_anywhere depth text ps le e = (reads_again depth text ps le e).1

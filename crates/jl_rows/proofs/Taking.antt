@@ -50,8 +50,9 @@ pub kept : (bytes : List ℕ) (ps : List (Option Part)) (group : ℕ) (p : Part)
 kept bytes ps group p has fits inside = record {
   count = length-set ps group (Some p) ∙ has.count;
   each = λ g. elim (cases_eq g group) [
-      inl e ↦ let there : group < length ps = omega (arith, has.count) in subst (HasMaybe bytes) (sym (ap (λ (n : ℕ). slice_index_or (slice_set ps group (Some p)) n None) e ∙ get_or-set_same ps group (Some p) None there)) inside
-    | inr ne ↦ subst (HasMaybe bytes) (sym (get_or-set_other ps group g (Some p) None ne)) (has.each g) ];
+    | inl e ↦ let there : group < length ps = omega (arith, has.count) in subst (HasMaybe bytes) (sym (ap (λ (n : ℕ). slice_index_or (slice_set ps group (Some p)) n None) e ∙ get_or-set_same ps group (Some p) None there)) inside
+    | inr ne ↦ subst (HasMaybe bytes) (sym (get_or-set_other ps group g (Some p) None ne)) (has.each g)
+  ];
 }
 
 -- a known field is taken

@@ -111,6 +111,9 @@ unfoldable pub decoded : StreamOptions → History → List Placed → Option Fa
 decoded o H [] fault = record { items = []; fault = fault }
 decoded o H (r ∷ rs) fault = led_at r.place (meaning o r.row H) (decoded o (r.row ∷ H) rs fault)
 
+abbrev pub decoded_on : StreamOptions → History → Reading Placed Fault → Reading Item Fault
+decoded_on o H R = decoded o H R.items R.fault
+
 -- The head of a file: its first row, where there is one.
 pub data Head : Type 0 where
   Nothing : Head

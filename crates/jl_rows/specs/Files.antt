@@ -1,5 +1,6 @@
 -- Frames and the rows in them (Jelly RDF serialization, "Delimited variant of Jelly" and "RdfStreamFrame").
-use Rattle.std.specs.Prelude.{ℕ, zero, suc, ◌+◌, ◌-◌, Bool, ◌==◌, List, [], ◌∷◌, length, take, drop, Option, Some, None, Result, Ok, Err, nat_lt, if◌then◌else◌}
+use Rattle.std.specs.Prelude.{ℕ, zero, suc, ◌+◌, ◌-◌, ◌^◌, ◌<◌, Bool, ◌==◌, List, [], ◌∷◌, length, take, drop, Option, Some, None, Result, Ok, Err, nat_lt, if◌then◌else◌}
+use Rattle.std.specs.List.{AllByRecursion}
 use Rattle.jl_base.specs.Results.{◌>>=◌, Reading, led, with_front, followed, joined}
 use Rattle.jl_base.specs.declared.kind.Kind.{Kind}
 use Rattle.jl_base.specs.declared.kind.Kind.TheVariants.{Truncated, WrongWire}
@@ -46,6 +47,10 @@ frames_after zero (b ∷ bytes) = led (body (b ∷ bytes)) (λ f. with_front f.0
 abbrev pub frames : List ℕ → Reading (List ℕ) Kind
 frames bytes = frames_after 0 bytes
 
+-- each frame's body is shorter than 2^32 bytes
+abbrev pub HasShortFrames : List ℕ → Type 0
+HasShortFrames file = AllByRecursion (λ body. length body < 2 ^ 32) (frames file).items
+
 -- a row with its place
 pub record Placed : Type 0 where
   pub place : Place
@@ -67,6 +72,9 @@ unfoldable pub placed : ℕ → ℕ → List Row → Option Kind → Reading Pla
 placed frame before [] fault = record { items = []; fault = ends_at frame (before + 1) fault }
 placed frame before (r ∷ rs) fault = with_front (record { place = place_at frame (before + 1); row = r }) (placed frame (before + 1) rs fault)
 
+abbrev pub placed_on : ℕ → ℕ → Reading Row Kind → Reading Placed Fault
+placed_on frame before R = placed frame before R.items R.fault
+
 abbrev pub frame_rows : ℕ → List ℕ → Reading Placed Fault
 frame_rows frame body = placed frame 0 (rows body).items (rows body).fault
 
@@ -74,6 +82,9 @@ frame_rows frame body = placed frame 0 (rows body).items (rows body).fault
 unfoldable pub rows_from : ℕ → List (List ℕ) → Option Kind → Reading Placed Fault
 rows_from frame [] fault = record { items = []; fault = ends_at frame 0 fault }
 rows_from frame (b ∷ bs) fault = joined (frame_rows frame b) (rows_from (frame + 1) bs fault)
+
+abbrev pub rows_on : ℕ → Reading (List ℕ) Kind → Reading Placed Fault
+rows_on frame R = rows_from frame R.items R.fault
 
 -- all rows of a file
 abbrev pub all_rows : List ℕ → Reading Placed Fault

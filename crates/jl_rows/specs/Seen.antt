@@ -13,6 +13,8 @@ use Rattle.jl_wire.specs.declared.field.Value.TheVariants as values
 use Rattle.jl_rows.specs.declared.message.Message.{Message}
 use Rattle.jl_rows.specs.declared.message.Shape.{Shape}
 use Rattle.jl_rows.specs.declared.options.Options.{Options}
+use Rattle.jl_rows.specs.declared.options.Physical.{Physical}
+use Rattle.jl_rows.specs.declared.options.Physical.TheVariants as physicals
 use Rattle.jl_rows.specs.declared.row.RawIri.{RawIri}
 use Rattle.jl_rows.specs.declared.row.RawTail.{RawTail}
 use Rattle.jl_rows.specs.declared.row.RawTail.TheVariants as tails
@@ -46,6 +48,11 @@ parts_or_none (Err k) = reading.nothing_said
 abbrev pub nested_at : List ℕ → written.Term
 nested_at text = reading.nested (parts_or_none (reading.read (content_said 31) Message.Triple text))
 
+-- A triple term that was read whole, wherever it stands, is read again without a fault, and says the same.
+abbrev pub ReadsAgain : Type 0
+ReadsAgain = (depth : ℕ) (text : List ℕ) (ps : reading.Parts) → depth ≤ 31 → reading.read (content_said depth) Message.Triple text ≡ Ok ps
+    → (reading.read (content_said 31) Message.Triple text ≡ Ok ps) × (reading.nested ps ≡ nested_at text)
+
 abbrev pub term_seen : List ℕ → RawTerm → written.Term
 term_seen bytes (terms.Iri i) = written.Iri (ids_seen i)
 term_seen bytes (terms.Bnode span) = written.Bnode (text_of bytes span)
@@ -74,6 +81,16 @@ options_seen bytes o = record {
   logical = o.logical;
   version = o.version;
 }
+
+-- a physical type's number
+abbrev pub number_of : Physical → ℕ
+number_of physicals.Triples = 1
+number_of physicals.Quads = 2
+number_of physicals.Graphs = 3
+
+-- the physical type is one of the three
+abbrev pub HasForm : Options → Type 0
+HasForm o = (0 < o.physical) × (o.physical ≤ 3)
 
 abbrev pub row_seen : List ℕ → Row → written.Row
 row_seen bytes (rows.Options o) = written.Options (options_seen bytes o)
@@ -178,3 +195,14 @@ IsNextRow bytes at end (Err k) = files.rows (slice_range bytes at end) ≡ recor
 -- a row that was read at a place of a frame
 abbrev pub IsRowWithin : List ℕ → ℕ → ℕ → Row × ℕ → Type 0
 IsRowWithin bytes at end r = (at < r.1) × (r.1 ≤ end) × HasRow bytes r.0
+
+-- What a reader of a file answers at a place of it: nothing more exactly at the end, the next frame's body, or the fault
+-- of what stands there in place of a frame.
+abbrev pub IsNextFrame : List ℕ → ℕ → ℕ → Result (Option (ℕ × ℕ)) Kind → Type 0
+IsNextFrame bytes at end (Ok None) = at ≡ end
+IsNextFrame bytes at end (Ok (Some f)) = files.frames (slice_range bytes at end) ≡ with_front (slice_range bytes f.0 f.1) (files.frames (slice_range bytes f.1 end))
+IsNextFrame bytes at end (Err k) = files.frames (slice_range bytes at end) ≡ record { items = []; fault = Some k }
+
+-- where a frame's body begins and ends, whose length stands at a place of the file
+abbrev pub IsFrameWithin : ℕ → ℕ → ℕ × ℕ → Type 0
+IsFrameWithin at end f = (at < f.0) × (f.0 ≤ f.1) × (f.1 ≤ end)

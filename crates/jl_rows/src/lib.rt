@@ -5,12 +5,19 @@
 //! messages, rows, histories and the decoder. It stands on jl_wire and jl_base.
 #![tactic(auto)]
 
+mod frame;
+mod in_space;
 mod message;
 mod options;
 mod read;
 mod read_row;
 mod row;
+mod triple_terms;
 
+pub use frame::next_frame;
+pub use in_space::{next_row, triple_term};
 pub use message::{Known, Message, Shape};
 pub use options::{Options, Physical};
+pub use read_row::next_row_at;
 pub use row::{RawIri, RawQuad, RawTail, RawTerm, RawTriple, Row, Table};
+pub use triple_terms::{triple_term_at, triple_terms_again};

@@ -8,12 +8,10 @@ ghost use Rattle.jl_rows.specs.Messages as table;
 ghost use Rattle.jl_rows.specs.Reading as spec;
 ghost use Rattle.jl_rows.specs.Seen.{ids_seen, term_seen, part_seen, maybe_seen, parts_seen, position_seen, ending_seen, HasTail, HasTerm, HasValue, HasPart, HasParts, HasMaybe, HasPosition, IsFree, Takes, nested_span};
 
-
 use crate::message::{Known, Message, Shape};
 use crate::row::{RawIri, RawTail, RawTerm};
 use jl_base::{Kind, Span};
 use jl_wire::{Field, Value, next_field, utf8};
-
 
 /// What a known field says.
 #[derive(Clone, Copy, Debug)]
@@ -276,7 +274,13 @@ fn content(bytes: &[u8], shape: Shape, value: Value, depth: u32) -> Result<Part,
         return Err(Kind::TooDeep);
     }
     let at = span.at as usize;
-    read(bytes, at, at + span.len as usize, Message::Triple, depth - 1)?;
+    read(
+        bytes,
+        at,
+        at + span.len as usize,
+        Message::Triple,
+        depth - 1,
+    )?;
     Ok(Part::Said(RawTerm::Triple(span)))
 }
 

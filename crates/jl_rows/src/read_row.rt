@@ -10,10 +10,10 @@ ghost use Rattle.jl_rows.specs.Files as files;
 ghost use Rattle.jl_rows.specs.Rows as spec;
 ghost use Rattle.jl_rows.specs.Seen.{parts_seen, options_seen, row_seen, HasMaybeRow, HasParts, HasRow, HasValue, IsNextRow, IsRowWithin, TakesRow};
 
+use crate::Options;
 use crate::message::{Message, Sort, sort_of};
 use crate::read::{Parts, empty, flag, ids, number, read, term, text};
 use crate::row::{RawQuad, RawTriple, Row, Table};
-use crate::Options;
 use jl_base::{Kind, Span};
 use jl_wire::{Field, Value, next_field};
 

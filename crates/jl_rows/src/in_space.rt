@@ -1,0 +1,35 @@
+//! The readers over the bytes of an input.
+ghost use Rattle.std.specs.Prelude.{◌≡◌, ◌+◌, ◌≤◌, IfOk, IfSome};
+ghost use Rattle.jl_base.specs.Spans.{IsInside, text_of};
+ghost use Rattle.jl_rows.specs.Seen.{HasTriple, IsNextRow, IsRowWithin, nested_at, nested_seen};
+
+use crate::read_row::next_row_at;
+use crate::row::{RawTriple, Row};
+use crate::triple_terms::triple_term_at;
+use jl_base::{Kind, Space, Span};
+
+/// The next row of a frame from a place in it on, and the place behind it; None where the rest of the frame has no row
+/// and no fault. A refusal is the frame's fault that comes before any row there.
+pub fn next_row(space: &Space, frame: Span, at: u64) -> Result<Option<(Row, u64)>, Kind>
+    requires inside { IsInside space.now frame }
+    requires start { frame.at ≤ at }
+    requires end { at ≤ frame.at + frame.len }
+    ensures exact { IsNextRow space.now at (frame.at + frame.len) result }
+    ensures within { IfOk result (λ found. IfSome found (IsRowWithin space.now at (frame.at + frame.len))) }
+{
+    let bytes = space.bytes();
+    let end = frame.at as usize + frame.len as usize;
+    match next_row_at(bytes, at as usize, end)? {
+        Some((row, next)) => Ok(Some((row, next as u64))),
+        None => Ok(None),
+    }
+}
+
+/// The terms of a triple term, by where its message lies, as `RawTerm::Triple` says.
+pub fn triple_term(space: &Space, inner: Span) -> RawTriple
+    requires { IsInside space.now inner }
+    ensures exact { nested_seen space.now result ≡ nested_at (text_of space.now inner) }
+    ensures inside { HasTriple space.now result }
+{
+    triple_term_at(space.bytes(), inner)
+}

@@ -1,4 +1,5 @@
 pub mod CutLemmas
+pub mod ItemLemmas
 pub mod PartLemmas
 pub mod ScheduleLemmas
 pub mod SinkLemmas

@@ -1,4 +1,5 @@
 ghost use Rattle.std.specs.Prelude.{◌≡◌, None, IfOk};
+ghost use Rattle.jl_base.specs.FileShelves.{name_of, has_parts};
 ghost use Rattle.jl_base.specs.Sinks.{TakesSome};
 
 use crate::{Failed, Shelf, Sink, Text};
@@ -34,7 +35,9 @@ impl<R: Files + Print + Drop> FileShelf<R> {
         name: Option<Text>,
         parts: bool,
     ) -> Result<FileShelf<R>, AllocError>
-        ensures { IfOk result (λ s. ⟦<FileShelf<R> as Sink>⟧.faults s ≡ 0) }
+        ensures faults { IfOk result (λ s. ⟦<FileShelf<R> as Sink>⟧.faults s ≡ 0) }
+        ensures name { IfOk result (λ s. name_of s ≡ name) }
+        ensures parts { IfOk result (λ s. has_parts s ≡ parts) }
     {
         let len = match &name {
             Some(name) => name.bytes().len(),

@@ -94,3 +94,7 @@ Delivers-one a b piece (Err e) adds = record {
   was = WasGiven-first a b adds.done adds.adds;
   whole = tt;
 }
+
+-- where nothing was given, a front of whatever parts was
+pub Delivers-none : {T E : Type 0} (held : Option Held) (parts : List (List ℕ)) (e : E) → Delivers {T = T} held held parts (Err e)
+Delivers-none held parts e = record { given = []; front = tt; was = WasGiven-none held; whole = tt }

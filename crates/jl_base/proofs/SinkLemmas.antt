@@ -1,5 +1,5 @@
 -- Adding to what a sink holds.
-use Rattle.std.proofs.Common.{◌≡◌, ℕ, List, [], ◌++◌, ◌-◌, length, take, drop, Option, Some, None, Result, Ok, Err, subst, sym, ◌∙◌, ap, append_assoc, take-append-drop}
+use Rattle.std.proofs.Common.{◌≡◌, ℕ, List, [], ◌++◌, ◌-◌, length, take, drop, Option, Some, None, Result, Ok, Err, refl, subst, sym, ◌∙◌, ap, append_assoc, take-append-drop}
 use Rattle.std.proofs.lemmas.List.{append-nil, take_rest}
 use Rattle.jl_base.specs.Sinks.{Held, added, Adds, AddsFront}
 
@@ -51,3 +51,8 @@ AddsFront-failed a b xs ys e f failed = record {
 pub Adds-whole : {T E : Type 0} (a b : Option Held) (xs : List ℕ) (x : T) → AddsFront {E = E} a b xs (Ok x) → Adds a b xs
 Adds-whole a b xs x adds =
     subst (Adds a b) (sym (adds.split ∙ ap (λ (rest : List ℕ). adds.done ++ rest) adds.whole ∙ append-nil adds.done)) adds.adds
+
+-- nothing is to be added
+pub AddsFront-none : {T E : Type 0} (held : Option Held) (result : Result T E) → AddsFront held held [] result
+AddsFront-none held (Ok x) = record { done = []; rest = []; split = refl; adds = Adds-nil held; whole = refl }
+AddsFront-none held (Err e) = record { done = []; rest = []; split = refl; adds = Adds-nil held; whole = tt }

@@ -1,6 +1,9 @@
 pub mod Causes
 pub mod Cuts
+pub mod FileShelves
+pub mod FileSources
 pub mod Filling
+pub mod Items
 pub mod Kinds
 pub mod MemShelves
 pub mod MemSources

@@ -1,4 +1,5 @@
 ghost use Rattle.std.specs.Prelude.{◌≡◌, None, IfOk};
+ghost use Rattle.jl_base.specs.FileShelves.{name_of, has_parts};
 ghost use Rattle.jl_base.specs.Sinks.{TakesSome};
 
 use crate::{Failed, Shelf, Sink, Text};
@@ -8,7 +9,7 @@ use std::io::Write;
 use std::rt::Files;
 use std::{fs, str};
 
-/// What a part's name has behind the shelf's name: two points, a number of at most twenty digits, and `jelly`.
+/// What a part's name has behind the shelf's name: two dots, a number of at most twenty digits, and `jelly`.
 const SUFFIX: usize = 27;
 
 /// Standard output, a file, or a file for each part. It tells no bytes. A file is made at the first write to it, so
@@ -27,14 +28,16 @@ pub struct FileShelf<R: Files + Print + Drop> {
 
 impl<R: Files + Print + Drop> FileShelf<R> {
     /// A shelf on the file of this name, or on standard output where there is none. With `parts` part k, counted from
-    /// 1, is the file of the name followed by a point, k and `.jelly`. Else a turn changes nothing.
+    /// 1, is the file of the name followed by a dot, k and `.jelly`. Else a turn changes nothing.
     pub fn new(
         rt: R,
         alloc: Global,
         name: Option<Text>,
         parts: bool,
     ) -> Result<FileShelf<R>, AllocError>
-        ensures { IfOk result (λ s. ⟦<FileShelf<R> as Sink>⟧.faults s ≡ 0) }
+        ensures faults { IfOk result (λ s. ⟦<FileShelf<R> as Sink>⟧.faults s ≡ 0) }
+        ensures name { IfOk result (λ s. name_of s ≡ name) }
+        ensures parts { IfOk result (λ s. has_parts s ≡ parts) }
     {
         let len = match &name {
             Some(name) => name.bytes().len(),

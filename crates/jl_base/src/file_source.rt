@@ -1,5 +1,6 @@
 ghost use Rattle.std.specs.Prelude.{◌≡◌, None};
 ghost use Rattle.std.specs.Io.{ReadsAtMost};
+ghost use Rattle.jl_base.specs.FileSources.{name_of};
 
 use crate::{Failed, Source, Text};
 use std::io::Read;
@@ -20,7 +21,8 @@ pub struct FileSource<R: Files + Drop> {
 impl<R: Files + Drop> FileSource<R> {
     /// Opens nothing yet, and takes no memory.
     pub fn new(rt: R, name: Text) -> FileSource<R>
-        ensures { ⟦<FileSource<R> as Source>⟧.told result ≡ record { left = None; given = 0; faults = 0 } }
+        ensures told { ⟦<FileSource<R> as Source>⟧.told result ≡ record { left = None; given = 0; faults = 0 } }
+        ensures name { name_of result ≡ name }
     {
         FileSource {
             rt,

@@ -35,5 +35,8 @@ pub use space::{FillFault, Space};
 pub use term::{Item, Items, Tail, Term, Three};
 pub use text::Text;
 
+// The box of a triple term's three terms.
+pub use sqlite_items::Boxed;
+
 #[cfg(test)]
 mod tests;

@@ -30,12 +30,14 @@ impl<T> Seq<T> {
         }
     }
 
+    #[inline]
     pub fn len(&self) -> u64
         ensures { result ≡ length self.now }
     {
         self.items.len() as u64
     }
 
+    #[inline]
     pub fn at(&self, i: u64) -> &T
         requires { i < length self.now }
         ensures { slice_get self.now i ≡ Some result.now }
@@ -44,6 +46,7 @@ impl<T> Seq<T> {
     }
 
     /// All elements, for loops over them.
+    #[inline]
     pub fn as_slice(&self) -> &[T]
         ensures { result.now ≡ self.now }
     {
@@ -52,6 +55,7 @@ impl<T> Seq<T> {
 }
 
 impl<T: Drop> Seq<T> {
+    #[inline]
     pub fn push(&mut self, value: T) -> Result<(), AllocError>
         ensures ok { OnOk result (self.new ≡ self.old ++ value ∷ []) }
         ensures err { OnErr result (self.new ≡ self.old) }

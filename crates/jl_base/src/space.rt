@@ -43,6 +43,7 @@ impl Space {
         }
     }
 
+    #[inline]
     pub fn bytes(&self) -> &[u8]
         ensures all { result.now ≡ self.now }
         ensures fits { length self.now < 2 ^ 64 }
@@ -51,6 +52,7 @@ impl Space {
     }
 
     /// The bytes of a span.
+    #[inline]
     pub fn text(&self, span: Span) -> &[u8]
         requires { IsInside self.now span }
         ensures all { result.now ≡ text_of self.now span }

@@ -36,7 +36,7 @@ fn items_are_copied(rt: HostRuntime) -> Result<(), Fail> {
         p: Term::Iri(text(alloc, "p")?),
         o: label,
     };
-    let nested = Term::Triple(sqlite_items::Boxed::new(alloc, three)?);
+    let nested = Term::Triple(Boxed::new(alloc, three)?);
     let literal = Term::Literal {
         lex: text(alloc, "x")?,
         tail: Tail::Lang(text(alloc, "en")?),

@@ -41,18 +41,21 @@ impl Text {
         Text::from_bytes(*self.bytes.allocator(), &self.bytes)
     }
 
+    #[inline]
     pub fn bytes(&self) -> &[u8]
         ensures { result.now ≡ self.now }
     {
         &self.bytes
     }
 
+    #[inline]
     pub fn len(&self) -> u64
         ensures { result ≡ length self.now }
     {
         self.bytes.len() as u64
     }
 
+    #[inline]
     pub fn at(&self, i: u64) -> &u8
         requires { i < length self.now }
         ensures { slice_get self.now i ≡ Some result.now }
@@ -60,6 +63,7 @@ impl Text {
         &self.bytes[i as usize]
     }
 
+    #[inline]
     pub fn push(&mut self, value: u8) -> Result<(), AllocError>
         ensures ok { OnOk result (self.new ≡ self.old ++ value ∷ []) }
         ensures err { OnErr result (self.new ≡ self.old) }
@@ -68,6 +72,7 @@ impl Text {
         Ok(())
     }
 
+    #[inline]
     pub fn append(&mut self, more: &[u8]) -> Result<(), AllocError>
         ensures ok { OnOk result (self.new ≡ self.old ++ more.now) }
         ensures err { OnErr result (self.new ≡ self.old) }

@@ -4,3 +4,4 @@ pub mod EscapeLemmas
 pub mod LaneLemmas
 pub mod RawLemmas
 pub mod CleanLemmas
+pub mod WideLemmas

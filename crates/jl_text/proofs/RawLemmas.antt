@@ -19,7 +19,8 @@ drop_split text at end ordered =
     sym (take-append-drop (end - at) (drop at text))
     ∙ ap (λ (rest : List ℕ). slice_range text at end ++ rest) (drop-drop (end - at) at text ∙ ap (λ (n : ℕ). drop n text) sum)
 
-stretch_raw : (t : Terminal) (text : List ℕ) (at end : ℕ) → RawUpTo t text at end → escaped t (slice_range text at end) ≡ slice_range text at end
+-- a stretch that stands for itself
+pub stretch_raw : (t : Terminal) (text : List ℕ) (at end : ℕ) → RawUpTo t text at end → escaped t (slice_range text at end) ≡ slice_range text at end
 stretch_raw t text at end run =
     escaped_raw t (slice_range text at end) λ k below.
     let inside : k < end - at = omega (arith, length-take (end - at) (drop at text)) in

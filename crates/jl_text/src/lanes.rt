@@ -1,4 +1,4 @@
-//! Many bytes of a string at once: whether they all stand for themselves.
+//! Many bytes at once: whether they all stand for themselves.
 ghost use Rattle.std.specs.Prelude.{◌≡◌, ◌+◌, ◌≤◌, length, IsTrue};
 ghost use Rattle.jl_text.specs.Escapes.{AreRaw, RawUpTo};
 
@@ -8,6 +8,9 @@ use std::simd::prelude::*;
 const LANES: usize = 16;
 
 const HALF_LANES: usize = 8;
+
+/// The bytes that are read for a short text.
+pub(crate) const WIDE: usize = 32;
 
 #[inline(always)]
 fn is_raw_block(text: &[u8], at: usize) -> bool
@@ -29,6 +32,35 @@ fn is_raw_half_block(text: &[u8], at: usize) -> bool
     let is_control = v.simd_lt(u8x8::splat(b' ')) | v.simd_eq(u8x8::splat(0x7f));
     let is_echar = v.simd_eq(u8x8::splat(b'"')) | v.simd_eq(u8x8::splat(b'\\'));
     (is_control | is_echar).to_bitmask() == 0
+}
+
+/// Whether the first bytes of a block stand for themselves in a string.
+#[inline(always)]
+pub(crate) fn is_raw_string_front(text: &[u8], at: usize, len: usize) -> bool
+    requires room { at + WIDE ≤ length text.now }
+    requires within { len ≤ WIDE }
+    ensures { IsTrue result → AreRaw Terminal.StringLiteral text.now at (at + len) }
+{
+    let v = u8x32::from_slice(&text[at..]);
+    let is_control = v.simd_lt(u8x32::splat(b' ')) | v.simd_eq(u8x32::splat(0x7f));
+    let is_echar = v.simd_eq(u8x32::splat(b'"')) | v.simd_eq(u8x32::splat(b'\\'));
+    let stops = (is_control | is_echar).to_bitmask();
+    stops.trailing_zeros() as usize >= len
+}
+
+/// Whether the first bytes of a block stand for themselves in a label.
+#[inline(always)]
+pub(crate) fn is_raw_label_front(text: &[u8], at: usize, len: usize) -> bool
+    requires room { at + WIDE ≤ length text.now }
+    requires within { len ≤ WIDE }
+    ensures { IsTrue result → AreRaw Terminal.BlankNodeLabel text.now at (at + len) }
+{
+    let v = u8x32::from_slice(&text[at..]);
+    let from_a = (v | u8x32::splat(0x20)) - u8x32::splat(b'a');
+    let from_zero = v - u8x32::splat(b'0');
+    let is_other = from_a.simd_ge(u8x32::splat(26)) & from_zero.simd_ge(u8x32::splat(10));
+    let stops = (is_other | v.simd_eq(u8x32::splat(b'X'))).to_bitmask();
+    stops.trailing_zeros() as usize >= len
 }
 
 /// Passes over whole blocks of raw bytes.

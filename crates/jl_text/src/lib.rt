@@ -10,6 +10,7 @@ mod lanes;
 mod notice;
 mod short;
 mod term;
+mod wide;
 
 pub use notice::{Notice, report_fault};
 pub use short::Short;
@@ -17,3 +18,4 @@ pub use term::{
     is_clean_iri, is_xsd_string, push_clean_iri, push_datatype, push_iri, push_label, push_string,
     push_tag,
 };
+pub use wide::{push_clean_iri_at, push_label_at, push_string_at};

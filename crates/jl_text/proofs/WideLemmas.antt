@@ -1,0 +1,28 @@
+-- A short text among the bytes that were read for it.
+use Rattle.std.proofs.Common.{◌≡◌, ℕ, ◌+◌, ◌-◌, ◌<◌, ◌≤◌, List, length, take, drop, slice_range, ap, ◌∙◌, arith, length-drop, length-take}
+use Rattle.std.proofs.lemmas.List.{take-take}
+use Rattle.jl_text.specs.declared.escape.Terminal.{Terminal}
+use Rattle.jl_text.specs.declared.escape.Terminal.TheVariants.{StringLiteral, BlankNodeLabel}
+use Rattle.jl_text.specs.Line.{string_escaped, label_written}
+use Rattle.jl_text.specs.Escapes.{escaped, AreRaw}
+use Rattle.jl_text.proofs.RawLemmas.{stretch_raw}
+use Rattle.jl_text.proofs.CleanLemmas.{escaped_label}
+
+pub front_of_wide : (bytes : List ℕ) (at len : ℕ) → len ≤ 32 → take len (take 32 (drop at bytes)) ≡ slice_range bytes at (at + len)
+front_of_wide bytes at len short =
+    let size : len ≡ at + len - at = omega arith in
+    take-take len 32 (drop at bytes) short ∙ ap (λ n. take n (drop at bytes)) size
+
+clean_at : (t : Terminal) (bytes : List ℕ) (at len : ℕ) → at + len ≤ length bytes → AreRaw t bytes at (at + len)
+    → escaped t (slice_range bytes at (at + len)) ≡ slice_range bytes at (at + len)
+clean_at t bytes at len inside raw = stretch_raw t bytes at (at + len) (record { ordered = omega arith; in_range = inside; raw = raw })
+
+pub clean_string_at : (bytes : List ℕ) (at len : ℕ) → at + len ≤ length bytes → AreRaw StringLiteral bytes at (at + len)
+    → string_escaped (slice_range bytes at (at + len)) ≡ slice_range bytes at (at + len)
+clean_string_at bytes at len inside raw = clean_at StringLiteral bytes at len inside raw
+
+pub clean_label_at : (bytes : List ℕ) (at len : ℕ) → at + len ≤ length bytes → 0 < len → AreRaw BlankNodeLabel bytes at (at + len)
+    → label_written (slice_range bytes at (at + len)) ≡ slice_range bytes at (at + len)
+clean_label_at bytes at len inside some raw =
+    escaped_label (slice_range bytes at (at + len)) (λ none. omega (arith, none, length-take (at + len - at) (drop at bytes), length-drop at bytes))
+    ∙ clean_at BlankNodeLabel bytes at len inside raw

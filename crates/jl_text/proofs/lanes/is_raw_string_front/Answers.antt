@@ -1,0 +1,16 @@
+use Rattle.std.proofs.Common.{refl, arith}
+use Rattle.std.proofs.lemmas.Simd.{zip2_splat, zip2_of_maps, length-chunk}
+use lib.Lanes.{chunk}
+use Rattle.jl_text.specs.declared.escape.Terminal.TheVariants.{StringLiteral}
+use Rattle.jl_text.specs.Line.{string_byte}
+use Rattle.jl_text.proofs.LaneLemmas.{raw_below_first}
+use Rattle.jl_text.proofs.lanes.is_raw_string_front.Goals as goal
+
+pub returns : goal.returns
+unfolding string_byte
+returns c =
+    let v = chunk c.args.at 32 c.args.text.now in
+    let long = length-chunk c.args.at 32 c.args.text.now c.requires.room in
+    raw_below_first StringLiteral c.args.text.now c.args.at 32 _ _ c.requires.room (omega arith) c.type_inv.text
+    (zip2_of_maps _ _ _ v (zip2_of_maps _ _ _ v (zip2_splat _ v 32 32 long) (zip2_splat _ v 32 127 long))
+    (zip2_of_maps _ _ _ v (zip2_splat _ v 32 34 long) (zip2_splat _ v 32 92 long))) refl c.args.len c.requires.within

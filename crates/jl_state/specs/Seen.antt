@@ -1,5 +1,5 @@
 -- What the code's state stands for: its texts in place of where they lie.
-use Rattle.std.specs.Prelude.{◌≡◌, ℕ, ◌+◌, ◌<◌, ◌≤◌, ◌^◌, List, map, length, slice_set, Option, Some, None, Result, Ok, Err}
+use Rattle.std.specs.Prelude.{◌≡◌, ℕ, ◌+◌, ◌<◌, ◌≤◌, ◌^◌, List, map, length, slice_set, replicate, Option, Some, None, Result, Ok, Err}
 use Rattle.jl_base.specs.declared.kind.Kind.{Kind}
 use Rattle.jl_base.specs.declared.kind.Kind.TheVariants.{BadEntry}
 use Rattle.jl_rows.specs.declared.row.Table.{Table}
@@ -47,3 +47,7 @@ IsLeaf _ = Unit {0}
 abbrev pub Enters : List ℕ → ℕ → List ℕ → List Extent → List Extent → ℕ → Result (Unit {0}) Kind → Type 0
 Enters bytes id text old new last (Ok _) = (id < length old) × (map (slot_seen bytes) new ≡ slice_set (map (slot_seen bytes) old) id (Some text)) × (last ≡ id) × (length new ≡ length old)
 Enters bytes id text old new last (Err kind) = (length old ≤ id) × (kind ≡ BadEntry)
+
+-- a table of so many entries, none of them filled
+abbrev pub IsUnfilled : ℕ → List Extent → Type 0
+IsUnfilled size slots = (length slots ≡ size + 1) × ((bytes : List ℕ) → (map (slot_seen bytes) slots ≡ replicate (size + 1) None) × AreSound bytes slots)

@@ -6,7 +6,8 @@ ghost use Rattle.jl_rows.specs.Seen as rows;
 ghost use Rattle.jl_state.specs.States as states;
 ghost use Rattle.jl_state.specs.Steps as steps;
 ghost use Rattle.jl_state.specs.Extents.{slot_seen, AreSound};
-ghost use Rattle.jl_state.specs.Seen.{Enters};
+ghost use Rattle.jl_state.specs.Lawful.{state_seen, IsLawful};
+ghost use Rattle.jl_state.specs.Seen.{Enters, IsUnfilled};
 
 use crate::extent::UNFILLED;
 use crate::{Extent, Known, LastIds, Tables};
@@ -69,4 +70,46 @@ pub(crate) fn enter(
     slots[id as usize] = Extent::marked(bytes, text);
     *last = id;
     Ok(())
+}
+
+// A table of this many entries, all of them unfilled.
+fn unfilled(alloc: Global, size: u32) -> Result<Vec<Extent>, AllocError>
+    requires { size ≤ decoder.most_entries }
+    ensures { IfOk result (λ slots. IsUnfilled size slots.items) }
+{
+    vec![in alloc; UNFILLED; size as usize + 1]
+}
+
+impl State {
+    /// The state before the first row, under options that passed the checks of a first row.
+    pub fn opening(alloc: Global, bytes: &[u8], options: &Options) -> Result<State, AllocError>
+        requires inside { IsInside bytes.now options.now.stream_name }
+        requires names { options.now.names ≤ decoder.most_entries }
+        requires prefixes { options.now.prefixes ≤ decoder.most_entries }
+        requires datatypes { options.now.datatypes ≤ decoder.most_entries }
+        ensures exact { IfOk result (λ s. state_seen bytes.now s ≡ states.opening (rows.options_seen bytes.now options.now)) }
+        ensures lawful { IfOk result (IsLawful bytes.now) }
+        ensures options { IfOk result (λ s. s.options ≡ options.now) }
+    {
+        let names = unfilled(alloc, options.names)?;
+        let prefixes = unfilled(alloc, options.prefixes)?;
+        let datatypes = unfilled(alloc, options.datatypes)?;
+        Ok(State {
+            options: *options,
+            tables: Tables {
+                names,
+                prefixes,
+                datatypes,
+            },
+            name_entry: 0,
+            prefix_entry: 0,
+            datatype_entry: 0,
+            last: LastIds { prefix: 0, name: 0 },
+            subject: None,
+            predicate: None,
+            object: None,
+            graph: None,
+            open_graph: None,
+        })
+    }
 }

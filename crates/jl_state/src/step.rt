@@ -1,5 +1,5 @@
 //! One row's step from a state.
-ghost use Rattle.std.specs.Prelude.{◌≡◌, ◌≤◌, ◌^◌, OnOk, length, true, false, ◌==◌, ◌&&◌, is_none};
+ghost use Rattle.std.specs.Prelude.{◌≡◌, ◌≤◌, ◌^◌, IfOk, OnOk, length, true, false, ◌==◌, ◌&&◌, is_none};
 ghost use Rattle.std.specs.Option.{option_map};
 ghost use Rattle.jl_base.specs.Spans.{IsInside, text_of};
 ghost use Rattle.jl_rows.specs.Decoder as decoder;
@@ -36,6 +36,7 @@ impl State {
             (steps.row_step (rows.options_seen bytes.now self.old.options) (written.Entry table id (text_of bytes.now text)) (state_seen bytes.now self.old)) self.new result }
         ensures lawful { OnOk result (IsLawful bytes.now self.new) }
         ensures options { self.new.options ≡ self.old.options }
+        ensures stated { IfOk result (HasStated bytes.now) }
     {
         match table {
             Table::Name => enter(&mut self.tables.names, &mut self.name_entry, bytes, id, text)?,
@@ -61,6 +62,7 @@ impl State {
             (steps.row_step (rows.options_seen bytes.now self.old.options) (rows.row_seen bytes.now (Row.Triple t.now)) (state_seen bytes.now self.old)) self.new result }
         ensures lawful { OnOk result (IsLawful bytes.now self.new) }
         ensures options { self.new.options ≡ self.old.options }
+        ensures stated { IfOk result (HasStated bytes.now) }
     {
         if self.lacks_graph() {
             return Err(Stop::Fault(Kind::NoGraph));
@@ -84,6 +86,7 @@ impl State {
             (steps.row_step (rows.options_seen bytes.now self.old.options) (rows.row_seen bytes.now (Row.Quad t.now)) (state_seen bytes.now self.old)) self.new result }
         ensures lawful { OnOk result (IsLawful bytes.now self.new) }
         ensures options { self.new.options ≡ self.old.options }
+        ensures stated { IfOk result (HasStated bytes.now) }
     {
         let lookup = Lookup {
             bytes,
@@ -104,6 +107,7 @@ impl State {
             (steps.row_step (rows.options_seen bytes.now self.old.options) (rows.row_seen bytes.now (Row.GraphStart g)) (state_seen bytes.now self.old)) self.new result }
         ensures lawful { OnOk result (IsLawful bytes.now self.new) }
         ensures options { self.new.options ≡ self.old.options }
+        ensures stated { IfOk result (HasStated bytes.now) }
     {
         if self.open_graph.is_some() {
             return Err(Stop::Fault(Kind::GraphOpen));
@@ -127,6 +131,7 @@ impl State {
             (steps.row_step (rows.options_seen bytes.now self.old.options) written.GraphEnd (state_seen bytes.now self.old)) self.new result }
         ensures lawful { OnOk result (IsLawful bytes.now self.new) }
         ensures options { self.new.options ≡ self.old.options }
+        ensures stated { IfOk result (HasStated bytes.now) }
     {
         if self.open_graph.is_none() {
             return Err(Stop::Fault(Kind::NoGraph));
@@ -143,6 +148,7 @@ impl State {
             (steps.row_step (rows.options_seen bytes.now self.old.options) (written.Namespace (text_of bytes.now name) (option_map rows.ids_seen iri)) (state_seen bytes.now self.old)) self.new result }
         ensures lawful { OnOk result (IsLawful bytes.now self.new) }
         ensures options { self.new.options ≡ self.old.options }
+        ensures stated { IfOk result (HasStated bytes.now) }
     {
         let Some(iri) = iri else {
             return Err(Stop::Fault(Kind::NoTerm));
@@ -155,5 +161,51 @@ impl State {
         let (prefix, iri) = lookup.iri(ids)?;
         self.last = ids;
         Ok(Stated::Namespace { name, prefix, iri })
+    }
+
+    // The file's physical type doesn't have the row.
+    fn is_wrong_row(&self, bytes: &[u8], row: &Row) -> bool
+        ensures { result ≡ decoder.is_wrong_row (rows.options_seen bytes.now self.now.options) (rows.row_seen bytes.now row.now) }
+    {
+        match row {
+            Row::Triple(_) => self.options.physical == 2,
+            Row::Quad(_) => self.options.physical != 2,
+            Row::GraphStart(_) => self.options.physical != 3,
+            Row::GraphEnd => self.options.physical != 3,
+            Row::Options(_) => false,
+            Row::Namespace { .. } => false,
+            Row::Entry { .. } => false,
+        }
+    }
+
+    /// Takes one row: what it states, and the state behind it. Only a triple term takes memory, a box for its terms.
+    pub fn step(&mut self, alloc: Global, bytes: &[u8], row: &Row) -> Result<Stated, Stop>
+        requires lawful { IsLawful bytes.now self.old }
+        requires inside { rows.HasRow bytes.now row.now }
+        requires short { length bytes.now ≤ 2 ^ 30 }
+        ensures exact { Steps bytes.now (rows.options_seen bytes.now self.old.options)
+            (steps.step (rows.options_seen bytes.now self.old.options) (rows.row_seen bytes.now row.now) (state_seen bytes.now self.old)) self.new result }
+        ensures lawful { OnOk result (IsLawful bytes.now self.new) }
+        ensures options { self.new.options ≡ self.old.options }
+        ensures stated { IfOk result (HasStated bytes.now) }
+    {
+        if self.is_wrong_row(bytes, row) {
+            return Err(Stop::Fault(Kind::WrongRow));
+        }
+        match row {
+            Row::Options(options) => {
+                if self.options.same(bytes, options) {
+                    Ok(Stated::Nothing)
+                } else {
+                    Err(Stop::Fault(Kind::OptionsDiffer))
+                }
+            }
+            Row::Triple(t) => self.triple(alloc, bytes, t),
+            Row::Quad(t) => self.quad(alloc, bytes, t),
+            Row::GraphStart(g) => self.graph_start(alloc, bytes, *g),
+            Row::GraphEnd => self.graph_end(bytes),
+            Row::Namespace { name, iri } => self.namespace(bytes, *name, *iri),
+            Row::Entry { table, id, text } => self.enter(bytes, *table, *id, *text),
+        }
     }
 }

@@ -1,6 +1,8 @@
 pub mod Binds
 pub mod Marks
 pub mod Slots
+pub mod Depths
+pub mod NestedTerms
 pub mod Statements
 pub mod Looks
 pub mod Following

@@ -8,11 +8,12 @@ ghost use Rattle.jl_state.specs.KnownTerms.{HasKnown};
 ghost use Rattle.jl_state.specs.Lawful.{maybe_value, HasMaybe, Places};
 ghost use Rattle.jl_state.specs.Seen.{slots_seen, ids_seen, AreTables, IsLeaf};
 
-use crate::known::Known;
+use crate::known::{Known, KnownThree};
 use crate::tables::{LastIds, Lookup};
 use crate::{Extent, Stop};
 use jl_base::Kind;
-use jl_rows::RawTerm;
+use jl_rows::{RawTerm, triple_term_at};
+use sqlite_items::Boxed;
 use std::alloc::Global;
 
 impl Lookup<'_> {
@@ -70,6 +71,9 @@ impl Lookup<'_> {
         Ok(())
     }
 
+    /// A term that must be set, with the last ids behind it. A triple term takes a box for its terms; nothing else takes
+    /// memory.
+    #[cycle(look)]
     pub fn term(&self, alloc: Global, last: &mut LastIds, raw: RawTerm) -> Result<Known, Stop>
         requires tables { AreTables self.now.bytes.now self.now.tables.now }
         requires inside { rows.HasTerm self.now.bytes.now raw }
@@ -80,10 +84,31 @@ impl Lookup<'_> {
         ensures sound { IfOk result (HasKnown self.now.bytes.now) }
         ensures small { OnOk result (last.new.name ≤ decoder.most_entries) }
     {
-        let _ = alloc;
-        if let RawTerm::Triple(_) = raw {
-            return Err(Stop::NoMemory);
-        }
-        self.leaf(last, raw)
+        let RawTerm::Triple(span) = raw else {
+            return self.leaf(last, raw);
+        };
+        let terms = triple_term_at(self.bytes, span);
+        let s = self.inner(alloc, last, terms.s)?;
+        let p = self.inner(alloc, last, terms.p)?;
+        let o = self.inner(alloc, last, terms.o)?;
+        Ok(Known::Triple(Boxed::new(alloc, KnownThree { s, p, o })?))
+    }
+
+    // A term inside a triple term, which must be set.
+    #[cycle(look)]
+    fn inner(&self, alloc: Global, last: &mut LastIds, raw: Option<RawTerm>) -> Result<Known, Stop>
+        requires tables { AreTables self.now.bytes.now self.now.tables.now }
+        requires inside { rows.HasPosition self.now.bytes.now raw }
+        requires short { length self.now.bytes.now ≤ 2 ^ 30 }
+        requires small { last.old.name ≤ decoder.most_entries }
+        ensures exact { Looks self.now.bytes.now
+            (steps.looked (slots_seen self.now.bytes.now self.now.tables.now) (ids_seen last.old) (rows.position_seen self.now.bytes.now raw)) last.new result }
+        ensures sound { IfOk result (HasKnown self.now.bytes.now) }
+        ensures small { OnOk result (last.new.name ≤ decoder.most_entries) }
+    {
+        let Some(raw) = raw else {
+            return Err(Stop::Fault(Kind::NoTerm));
+        };
+        self.term(alloc, last, raw)
     }
 }

@@ -5,3 +5,4 @@ pub mod LaneLemmas
 pub mod RawLemmas
 pub mod CleanLemmas
 pub mod WideLemmas
+pub mod LabelLemmas

@@ -1,4 +1,4 @@
--- A short text among the bytes that were read for it.
+-- A text among the bytes that are copied for it.
 use Rattle.std.proofs.Common.{◌≡◌, ℕ, ◌+◌, ◌-◌, ◌<◌, ◌≤◌, List, length, take, drop, slice_range, ap, ◌∙◌, arith, length-drop, length-take}
 use Rattle.std.proofs.lemmas.List.{take-take}
 use Rattle.jl_text.specs.declared.escape.Terminal.{Terminal}
@@ -8,10 +8,10 @@ use Rattle.jl_text.specs.Escapes.{escaped, AreRaw}
 use Rattle.jl_text.proofs.RawLemmas.{stretch_raw}
 use Rattle.jl_text.proofs.CleanLemmas.{escaped_label}
 
-pub front_of_wide : (bytes : List ℕ) (at len : ℕ) → len ≤ 32 → take len (take 32 (drop at bytes)) ≡ slice_range bytes at (at + len)
-front_of_wide bytes at len short =
+pub front_of_copy : (bytes : List ℕ) (at len width : ℕ) → len ≤ width → take len (take width (drop at bytes)) ≡ slice_range bytes at (at + len)
+front_of_copy bytes at len width within =
     let size : len ≡ at + len - at = omega arith in
-    take-take len 32 (drop at bytes) short ∙ ap (λ n. take n (drop at bytes)) size
+    take-take len width (drop at bytes) within ∙ ap (λ n. take n (drop at bytes)) size
 
 clean_at : (t : Terminal) (bytes : List ℕ) (at len : ℕ) → at + len ≤ length bytes → AreRaw t bytes at (at + len)
     → escaped t (slice_range bytes at (at + len)) ≡ slice_range bytes at (at + len)

@@ -1,3 +1,4 @@
 pub mod Line
 pub mod Escapes
 pub mod Notices
+pub mod Labels

@@ -10,7 +10,7 @@ const LANES: usize = 16;
 const HALF_LANES: usize = 8;
 
 /// The bytes that are read for a short text.
-pub(crate) const WIDE: usize = 32;
+pub(crate) const SHORT: usize = 32;
 
 #[inline(always)]
 fn is_raw_block(text: &[u8], at: usize) -> bool
@@ -37,8 +37,8 @@ fn is_raw_half_block(text: &[u8], at: usize) -> bool
 /// Whether the first bytes of a block stand for themselves in a string.
 #[inline(always)]
 pub(crate) fn is_raw_string_front(text: &[u8], at: usize, len: usize) -> bool
-    requires room { at + WIDE ≤ length text.now }
-    requires within { len ≤ WIDE }
+    requires room { at + SHORT ≤ length text.now }
+    requires within { len ≤ SHORT }
     ensures { IsTrue result → AreRaw Terminal.StringLiteral text.now at (at + len) }
 {
     let v = u8x32::from_slice(&text[at..]);
@@ -51,8 +51,8 @@ pub(crate) fn is_raw_string_front(text: &[u8], at: usize, len: usize) -> bool
 /// Whether the first bytes of a block stand for themselves in a label.
 #[inline(always)]
 pub(crate) fn is_raw_label_front(text: &[u8], at: usize, len: usize) -> bool
-    requires room { at + WIDE ≤ length text.now }
-    requires within { len ≤ WIDE }
+    requires room { at + SHORT ≤ length text.now }
+    requires within { len ≤ SHORT }
     ensures { IsTrue result → AreRaw Terminal.BlankNodeLabel text.now at (at + len) }
 {
     let v = u8x32::from_slice(&text[at..]);

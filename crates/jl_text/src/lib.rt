@@ -6,16 +6,18 @@
 #![tactic(auto)]
 
 mod escape;
+mod label;
 mod lanes;
 mod notice;
 mod short;
 mod term;
 mod wide;
 
+pub use label::labels_stay_apart;
 pub use notice::{Notice, report_fault};
 pub use short::Short;
 pub use term::{
-    is_clean_iri, is_xsd_string, push_clean_iri, push_datatype, push_iri, push_label, push_string,
-    push_tag,
+    is_clean_iri, is_xsd_string, push_clean_iri, push_datatype, push_iri, push_label,
+    push_namespace, push_string, push_tag,
 };
-pub use wide::{push_clean_iri_at, push_label_at, push_string_at};
+pub use wide::{push_clean_iri_at, push_datatype_at, push_label_at, push_string_at, push_tag_at};

@@ -1,6 +1,7 @@
 //! The parts of a line, appended straight from the bytes of a file.
 ghost use Rattle.std.specs.Prelude.{◌≡◌, ◌++◌, ◌↔◌, codes, OnOk, IsTrue};
-ghost use Rattle.jl_text.specs.Line.{iri_escaped, iri_text, string_escaped, string_text, label_written, xsd_string};
+ghost use Rattle.jl_base.specs.Terms.{Namespace};
+ghost use Rattle.jl_text.specs.Line.{iri_escaped, iri_text, string_escaped, string_text, label_written, line, xsd_string};
 
 use crate::escape::{Terminal, is_clean, push_escaped};
 use crate::lanes::is_clean_string;
@@ -126,4 +127,23 @@ pub fn push_label(out: &mut Vec<u8>, label: &[u8]) -> Result<(), AllocError>
 {
     out.extend_from_slice(b"_:")?;
     push_label_part(out, label)
+}
+
+/// Appends the line that declares a namespace's name for the IRI whose text is a prefix and a name.
+#[tactic(auto, unfolding(crate::specs::Line::line))]
+pub fn push_namespace(
+    out: &mut Vec<u8>,
+    label: &[u8],
+    prefix: &[u8],
+    name: &[u8],
+) -> Result<(), AllocError>
+    ensures { OnOk result
+        (out.new.items ≡ out.old.items ++ line (Namespace label.now (prefix.now ++ name.now))) }
+{
+    out.extend_from_slice(b"# prefix ")?;
+    push_string_part(out, label)?;
+    out.push(b' ')?;
+    push_iri(out, prefix, name)?;
+    out.push(b'\n')?;
+    Ok(())
 }

@@ -1,14 +1,17 @@
-//! The same parts at their places in a file. A short text is copied as 32 bytes, which the file has behind its place
-//! nearly always, and then cut: a copy of one fixed size has no branch on the length.
-ghost use Rattle.std.specs.Prelude.{◌≡◌, ◌+◌, ◌≤◌, ◌++◌, length, take, drop, codes, OnOk, IsTrue};
+//! The same parts at their places in a file. A text is copied as 32 or 64 bytes, which the file nearly always has from
+//! its place on, and then cut: a copy of one fixed size has no branch on the text's length.
+ghost use Rattle.std.specs.Prelude.{◌≡◌, ◌+◌, ◌≤◌, ◌++◌, length, take, codes, OnOk, IsTrue};
 ghost use Rattle.jl_base.specs.Spans.{text_of, IsInside};
 ghost use Rattle.jl_text.specs.Line.{iri_escaped, iri_text, string_escaped, string_text, label_written};
 
-use crate::lanes::{WIDE, is_raw_label_front, is_raw_string_front};
-use crate::term::{push_clean_iri, push_label, push_string};
+use crate::lanes::{SHORT, is_raw_label_front, is_raw_string_front};
+use crate::term::{push_clean_iri, push_datatype, push_label, push_string, push_tag};
 use jl_base::Span;
 use std::alloc::AllocError;
 use std::simd::prelude::*;
+
+// The bytes that are copied for a prefix or a whole IRI.
+const LONG: usize = 64;
 
 #[inline(always)]
 fn text_at(bytes: &[u8], span: Span) -> &[u8]
@@ -19,43 +22,45 @@ fn text_at(bytes: &[u8], span: Span) -> &[u8]
     &bytes[at..at + span.len as usize]
 }
 
+// Whether the bytes can be read that are copied for the text.
 #[inline(always)]
-fn is_short(bytes: &[u8], span: Span) -> bool
+fn is_within(bytes: &[u8], span: Span, width: usize) -> bool
     requires { IsInside bytes.now span }
-    ensures { IsTrue result → (span.len ≤ WIDE) × (span.at + WIDE ≤ length bytes.now) }
+    ensures { IsTrue result → (span.len ≤ width) × (span.at + width ≤ length bytes.now) }
 {
-    span.len as usize <= WIDE && bytes.len() - span.at as usize >= WIDE
+    span.len as usize <= width && bytes.len() - span.at as usize >= width
 }
 
-// An array of its own, so that the copy into the text needs no test whether both overlap.
+// The copy has a place of its own, so that its way into the text needs no test whether both overlap.
 #[inline(always)]
-fn wide_at(bytes: &[u8], at: u64) -> [u8; WIDE]
-    requires { at + WIDE ≤ length bytes.now }
-    ensures { result ≡ take WIDE (drop at bytes.now) }
+fn push_front(out: &mut Vec<u8>, copy: &[u8], len: usize) -> Result<(), AllocError>
+    requires { len ≤ length copy.now }
+    ensures { OnOk result (out.new.items ≡ out.old.items ++ take len copy.now) }
 {
-    u8x32::from_slice(&bytes[at as usize..]).to_array()
-}
-
-#[inline(always)]
-fn push_front(out: &mut Vec<u8>, wide: &[u8; WIDE], len: usize) -> Result<(), AllocError>
-    requires { len ≤ WIDE }
-    ensures { OnOk result (out.new.items ≡ out.old.items ++ take len wide.now) }
-{
-    out.extend_from_slice(wide)?;
-    let end = out.len() - (WIDE - len);
+    out.extend_from_slice(copy)?;
+    let end = out.len() - (copy.len() - len);
     out.truncate(end);
     Ok(())
 }
 
-#[tactic(auto, using(crate::proofs::WideLemmas::front_of_wide))]
 #[inline(always)]
 fn push_short(out: &mut Vec<u8>, bytes: &[u8], span: Span) -> Result<(), AllocError>
-    requires short { span.len ≤ WIDE }
-    requires room { span.at + WIDE ≤ length bytes.now }
+    requires short { span.len ≤ SHORT }
+    requires room { span.at + SHORT ≤ length bytes.now }
     ensures { OnOk result (out.new.items ≡ out.old.items ++ text_of bytes.now span) }
 {
-    let wide = wide_at(bytes, span.at);
-    push_front(out, &wide, span.len as usize)
+    let copy = u8x32::from_slice(&bytes[span.at as usize..]).to_array();
+    push_front(out, &copy, span.len as usize)
+}
+
+#[inline(always)]
+fn push_long(out: &mut Vec<u8>, bytes: &[u8], span: Span) -> Result<(), AllocError>
+    requires long { span.len ≤ LONG }
+    requires room { span.at + LONG ≤ length bytes.now }
+    ensures { OnOk result (out.new.items ≡ out.old.items ++ text_of bytes.now span) }
+{
+    let copy = u8x64::from_slice(&bytes[span.at as usize..]).to_array();
+    push_front(out, &copy, span.len as usize)
 }
 
 /// Appends the IRI whose text is a prefix and a name that an IRI has as they are.
@@ -73,12 +78,12 @@ pub fn push_clean_iri_at(
     ensures { OnOk result
         (out.new.items ≡ out.old.items ++ iri_text (text_of bytes.now prefix ++ text_of bytes.now name)) }
 {
-    let are_short = is_short(bytes, prefix) && is_short(bytes, name);
-    if !are_short {
+    let are_within = is_within(bytes, prefix, LONG) && is_within(bytes, name, SHORT);
+    if !are_within {
         return push_clean_iri(out, text_at(bytes, prefix), text_at(bytes, name));
     }
     out.push(b'<')?;
-    push_short(out, bytes, prefix)?;
+    push_long(out, bytes, prefix)?;
     push_short(out, bytes, name)?;
     out.push(b'>')?;
     Ok(())
@@ -89,10 +94,10 @@ pub fn push_clean_iri_at(
 #[inline(always)]
 fn is_plain_string(bytes: &[u8], lex: Span) -> bool
     requires { IsInside bytes.now lex }
-    ensures short { IsTrue result → (lex.len ≤ WIDE) × (lex.at + WIDE ≤ length bytes.now) }
+    ensures short { IsTrue result → (lex.len ≤ SHORT) × (lex.at + SHORT ≤ length bytes.now) }
     ensures clean { IsTrue result → string_escaped (text_of bytes.now lex) ≡ text_of bytes.now lex }
 {
-    is_short(bytes, lex) && is_raw_string_front(bytes, lex.at as usize, lex.len as usize)
+    is_within(bytes, lex, SHORT) && is_raw_string_front(bytes, lex.at as usize, lex.len as usize)
 }
 
 /// Appends a literal's string, in its quotes.
@@ -115,11 +120,11 @@ pub fn push_string_at(out: &mut Vec<u8>, bytes: &[u8], lex: Span) -> Result<(), 
 #[inline(always)]
 fn is_plain_label(bytes: &[u8], label: Span) -> bool
     requires { IsInside bytes.now label }
-    ensures short { IsTrue result → (label.len ≤ WIDE) × (label.at + WIDE ≤ length bytes.now) }
+    ensures short { IsTrue result → (label.len ≤ SHORT) × (label.at + SHORT ≤ length bytes.now) }
     ensures clean { IsTrue result → label_written (text_of bytes.now label) ≡ text_of bytes.now label }
 {
     label.len > 0
-        && is_short(bytes, label)
+        && is_within(bytes, label, SHORT)
         && is_raw_label_front(bytes, label.at as usize, label.len as usize)
 }
 
@@ -135,4 +140,39 @@ pub fn push_label_at(out: &mut Vec<u8>, bytes: &[u8], label: Span) -> Result<(),
     }
     out.extend_from_slice(b"_:")?;
     push_short(out, bytes, label)
+}
+
+/// Appends a literal's language tag.
+#[inline]
+pub fn push_tag_at(out: &mut Vec<u8>, bytes: &[u8], tag: Span) -> Result<(), AllocError>
+    requires { IsInside bytes.now tag }
+    ensures { OnOk result (out.new.items ≡ out.old.items ++ (codes "@" ++ text_of bytes.now tag)) }
+{
+    if !is_within(bytes, tag, SHORT) {
+        return push_tag(out, text_at(bytes, tag));
+    }
+    out.push(b'@')?;
+    push_short(out, bytes, tag)
+}
+
+/// Appends a literal's datatype. It is clean where an IRI has it as it is.
+#[inline]
+pub fn push_datatype_at(
+    out: &mut Vec<u8>,
+    bytes: &[u8],
+    datatype: Span,
+    is_clean: bool,
+) -> Result<(), AllocError>
+    requires inside { IsInside bytes.now datatype }
+    requires clean { IsTrue is_clean → iri_escaped (text_of bytes.now datatype) ≡ text_of bytes.now datatype }
+    ensures { OnOk result (out.new.items ≡ out.old.items ++ (codes "^^" ++ iri_text (text_of bytes.now datatype))) }
+{
+    let is_copied = is_clean && is_within(bytes, datatype, LONG);
+    if !is_copied {
+        return push_datatype(out, text_at(bytes, datatype), is_clean);
+    }
+    out.extend_from_slice(b"^^<")?;
+    push_long(out, bytes, datatype)?;
+    out.push(b'>')?;
+    Ok(())
 }

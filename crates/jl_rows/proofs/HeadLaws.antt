@@ -1,19 +1,13 @@
 -- The head of a file whose first frames have no rows.
 use Rattle.std.proofs.Common.{◌≡◌, ℕ, ◌+◌, ◌-◌, ◌<◌, ◌≤◌, ◌^◌, List, [], length, take, drop, slice_range, Option, Some, None, refl, ◌∙◌, ap, sym, subst, arith}
-use Rattle.std.proofs.lemmas.List.{take_all}
 use Rattle.jl_base.specs.Results.{Reading, joined, with_front}
 use Rattle.jl_base.specs.declared.kind.Kind.{Kind}
 use Rattle.jl_base.specs.declared.place.Fault.{Fault}
 use Rattle.jl_rows.specs.Written.{Row}
-use Rattle.jl_rows.specs.Files.{HasShortFrames, Placed, fault_at, frames, place_at, placed_on, rows, rows_on}
+use Rattle.jl_rows.specs.Files.{Placed, fault_at, frames, place_at, placed_on, rows, rows_on}
 use Rattle.jl_rows.specs.Decoder.{Head, first_row_checked, head, head_checked, head_of}
-use Rattle.jl_rows.proofs.FileLaws.{file_next, file_done, file_broken, rows_next, rows_done, rows_broken, short_next}
+use Rattle.jl_rows.proofs.FileLaws.{file_next, file_done, file_broken, rows_next, rows_done, rows_broken}
 use Rattle.jl_rows.proofs.FrameLaws.{frames_at_end}
-use Rattle.jl_wire.proofs.Ranges.{length-range}
-
--- the whole of some bytes
-pub whole_range : (bytes : List ℕ) (end : ℕ) → end ≡ length bytes → slice_range bytes 0 end ≡ bytes
-whole_range bytes end e = let all : length bytes ≤ end - 0 = omega arith in take_all (end - 0) bytes all
 
 -- the head of these rows
 abbrev head_on : Reading Placed Fault → Head
@@ -54,9 +48,3 @@ module _ (bytes : List ℕ) (n at end : ℕ) where
     frame_without_rows before frame e =
         before ∙ file_next n (slice_range bytes at end) (slice_range bytes stop end) (slice_range bytes start stop) frame
         ∙ rows_done n 0 (slice_range bytes start stop) (rows_on (n + 1) (frames (slice_range bytes stop end))) e
-
-    -- the frame is short, and so are those behind it
-    pub short_frame : IsFrame → HasShortFrames (slice_range bytes at end) → start ≤ stop → stop ≤ length bytes → (stop - start < 2 ^ 32) × HasShortFrames (slice_range bytes stop end)
-    short_frame frame short le inside =
-        let both = short_next (slice_range bytes at end) (slice_range bytes stop end) (slice_range bytes start stop) frame short in
-        (omega (arith, both.0, length-range bytes start stop le inside), both.1)

@@ -23,8 +23,8 @@ use Rattle.jl_rows.specs.declared.row.RawTerm.TheVariants as terms
 use Rattle.jl_rows.specs.declared.row.RawTriple.{RawTriple}
 use Rattle.jl_rows.specs.declared.row.Row.{Row}
 use Rattle.jl_rows.specs.declared.row.Row.TheVariants as rows
-use Rattle.jl_rows.specs.declared.read.Part.{Part}
-use Rattle.jl_rows.specs.declared.read.Part.TheVariants as parts
+use Rattle.jl_rows.specs.declared.parts.Part.{Part}
+use Rattle.jl_rows.specs.declared.parts.Part.TheVariants as parts
 use Rattle.jl_rows.specs.Written as written
 use Rattle.jl_rows.specs.Reading as reading
 use Rattle.jl_rows.specs.Files as files

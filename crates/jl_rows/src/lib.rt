@@ -10,6 +10,7 @@ mod frame;
 mod in_space;
 mod message;
 mod options;
+mod parts;
 mod read;
 mod read_row;
 mod row;

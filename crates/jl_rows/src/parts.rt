@@ -1,10 +1,10 @@
 //! What the fields of a message said.
-ghost use Rattle.std.specs.Prelude.{◌≡◌, ◌<◌, None, slice_index_or};
+ghost use Rattle.std.specs.Prelude.{◌≡◌, ◌<◌};
 ghost use Rattle.std.specs.Option.{option_map};
 ghost use Rattle.jl_base.specs.Spans.{IsInside, text_of};
 ghost use Rattle.jl_rows.specs.Messages as table;
 ghost use Rattle.jl_rows.specs.Reading as spec;
-ghost use Rattle.jl_rows.specs.Seen.{HasMaybe, HasPosition, HasTail, ending_seen, ids_seen, maybe_seen, position_seen};
+ghost use Rattle.jl_rows.specs.Seen.{HasFound, HasPosition, HasTail, ending_seen, found_seen, ids_seen, position_seen};
 
 use crate::row::{RawIri, RawTail, RawTerm};
 use jl_base::Span;
@@ -34,7 +34,7 @@ impl Found<'_> {
     // A number's low 32 bits, or 0 where none stands.
     pub fn number(&self, group: usize) -> u32
         requires { group < table.groups }
-        ensures { result ≡ spec.number_32 (maybe_seen self.now.bytes.now (slice_index_or self.now.parts group None)) }
+        ensures { result ≡ spec.number_32 (spec.part (found_seen self.now) group) }
     {
         match self.parts[group] {
             Some(Part::Number(n)) => (n % 4_294_967_296) as u32,
@@ -45,7 +45,7 @@ impl Found<'_> {
     // Whether a number stands that isn't 0.
     pub fn flag(&self, group: usize) -> bool
         requires { group < table.groups }
-        ensures { result ≡ spec.flag (maybe_seen self.now.bytes.now (slice_index_or self.now.parts group None)) }
+        ensures { result ≡ spec.flag (spec.part (found_seen self.now) group) }
     {
         match self.parts[group] {
             Some(Part::Number(n)) => n != 0,
@@ -56,8 +56,8 @@ impl Found<'_> {
     // A text, or the empty one where none stands.
     pub fn text(&self, group: usize) -> Span
         requires group { group < table.groups }
-        requires inside { HasMaybe self.now.bytes.now (slice_index_or self.now.parts group None) }
-        ensures exact { text_of self.now.bytes.now result ≡ spec.text (maybe_seen self.now.bytes.now (slice_index_or self.now.parts group None)) }
+        requires inside { HasFound self.now }
+        ensures exact { text_of self.now.bytes.now result ≡ spec.text (spec.part (found_seen self.now) group) }
         ensures inside { IsInside self.now.bytes.now result }
     {
         match self.parts[group] {
@@ -69,8 +69,8 @@ impl Found<'_> {
     // A term, where one stands.
     pub fn term(&self, group: usize) -> Option<RawTerm>
         requires group { group < table.groups }
-        requires inside { HasMaybe self.now.bytes.now (slice_index_or self.now.parts group None) }
-        ensures exact { position_seen self.now.bytes.now result ≡ spec.term (maybe_seen self.now.bytes.now (slice_index_or self.now.parts group None)) }
+        requires inside { HasFound self.now }
+        ensures exact { position_seen self.now.bytes.now result ≡ spec.term (spec.part (found_seen self.now) group) }
         ensures inside { HasPosition self.now.bytes.now result }
     {
         match self.parts[group] {
@@ -82,7 +82,7 @@ impl Found<'_> {
     // An IRI's ids, where an IRI stands.
     pub fn ids(&self, group: usize) -> Option<RawIri>
         requires { group < table.groups }
-        ensures { option_map ids_seen result ≡ spec.ids (maybe_seen self.now.bytes.now (slice_index_or self.now.parts group None)) }
+        ensures { option_map ids_seen result ≡ spec.ids (spec.part (found_seen self.now) group) }
     {
         match self.parts[group] {
             Some(Part::Said(RawTerm::Iri(i))) => Some(i),
@@ -93,8 +93,8 @@ impl Found<'_> {
     // The end of a literal: its tag, its datatype, or neither.
     pub fn ending(&self, group: usize) -> RawTail
         requires group { group < table.groups }
-        requires inside { HasMaybe self.now.bytes.now (slice_index_or self.now.parts group None) }
-        ensures exact { ending_seen self.now.bytes.now result ≡ spec.ending (maybe_seen self.now.bytes.now (slice_index_or self.now.parts group None)) }
+        requires inside { HasFound self.now }
+        ensures exact { ending_seen self.now.bytes.now result ≡ spec.ending (spec.part (found_seen self.now) group) }
         ensures inside { HasTail self.now.bytes.now result }
     {
         match self.parts[group] {

@@ -1,9 +1,11 @@
 -- Laws of the rows of a file, as a loop over its frames and over their rows meets them.
-use Rattle.std.proofs.Common.{◌≡◌, ℕ, zero, suc, ◌+◌, ◌-◌, ◌<◌, ◌≤◌, ◌^◌, List, [], ◌∷◌, ◌++◌, length, Option, Some, None, Result, Ok, Err, refl, ◌∙◌, ap, sym, subst, arith}
+use Rattle.std.proofs.Common.{◌≡◌, ℕ, zero, suc, ◌+◌, ◌-◌, ◌<◌, ◌≤◌, ◌^◌, List, [], ◌∷◌, ◌++◌, length, slice_range, Option, Some, None, Result, Ok, Err, refl, ◌∙◌, ap, sym, subst, arith}
+use Rattle.std.proofs.lemmas.List.{take_all}
 use Rattle.std.specs.List.{AllByRecursion}
 use Rattle.jl_base.specs.Results.{Reading, led, followed, joined, with_front}
 use Rattle.jl_base.specs.declared.kind.Kind.{Kind}
 use Rattle.jl_base.specs.declared.place.Fault.{Fault}
+use Rattle.jl_wire.proofs.Ranges.{length-range}
 use Rattle.jl_rows.specs.Written.{StreamOptions, Row}
 use Rattle.jl_rows.specs.Files.{body, frames_after, frames, HasShortFrames, rows, Placed, place_at, fault_at, placed, placed_on, frame_rows, rows_from, rows_on}
 use Rattle.jl_rows.specs.History.{History}
@@ -90,3 +92,14 @@ short_file file lt = short_after 0 file lt
 -- a frame in front, and the frames behind it
 pub short_next : (rest rest' : List ℕ) (body : List ℕ) → frames rest ≡ with_front body (frames rest') → HasShortFrames rest → (length body < 2 ^ 32) × HasShortFrames rest'
 short_next rest rest' body e short = subst (λ (R : Reading (List ℕ) Kind). AreShort R.items) e short
+
+-- the same in a range of bytes, as next_frame reads them
+pub short_frame : (bytes : List ℕ) (at end start stop : ℕ) → frames (slice_range bytes at end) ≡ with_front (slice_range bytes start stop) (frames (slice_range bytes stop end)) → HasShortFrames (slice_range bytes at end)
+    → start ≤ stop → stop ≤ length bytes → (stop - start < 2 ^ 32) × HasShortFrames (slice_range bytes stop end)
+short_frame bytes at end start stop frame short le inside =
+    let both = short_next (slice_range bytes at end) (slice_range bytes stop end) (slice_range bytes start stop) frame short in
+    (omega (arith, both.0, length-range bytes start stop le inside), both.1)
+
+-- the whole of some bytes
+pub whole_range : (bytes : List ℕ) (end : ℕ) → end ≡ length bytes → slice_range bytes 0 end ≡ bytes
+whole_range bytes end e = let all : length bytes ≤ end - 0 = omega arith in take_all (end - 0) bytes all

@@ -8,7 +8,7 @@ use Rattle.jl_base.specs.declared.kind.Kind.TheVariants.{WrongWire, Twice}
 use Rattle.jl_wire.specs.Seen.{content_seen}
 use Rattle.jl_wire.specs.declared.field.Value.{Value}
 use Rattle.jl_rows.specs.declared.message.Known.{Known}
-use Rattle.jl_rows.specs.declared.read.Part.{Part}
+use Rattle.jl_rows.specs.declared.parts.Part.{Part}
 use Rattle.jl_rows.specs.Messages.{groups}
 use Rattle.jl_wire.specs.Fields.{Content}
 use Rattle.jl_rows.specs.Reading.{Parts, taken, taken_if_known, is_wrong_wire, part}

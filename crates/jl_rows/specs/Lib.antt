@@ -7,3 +7,4 @@ pub mod Seen
 pub mod History
 pub mod Values
 pub mod Decoder
+pub mod Heads

@@ -23,8 +23,9 @@ use Rattle.jl_rows.specs.declared.row.RawTerm.TheVariants as terms
 use Rattle.jl_rows.specs.declared.row.RawTriple.{RawTriple}
 use Rattle.jl_rows.specs.declared.row.Row.{Row}
 use Rattle.jl_rows.specs.declared.row.Row.TheVariants as rows
-use Rattle.jl_rows.specs.declared.read.Part.{Part}
-use Rattle.jl_rows.specs.declared.read.Part.TheVariants as parts
+use Rattle.jl_rows.specs.declared.parts.Found.{Found}
+use Rattle.jl_rows.specs.declared.parts.Part.{Part}
+use Rattle.jl_rows.specs.declared.parts.Part.TheVariants as parts
 use Rattle.jl_rows.specs.Written as written
 use Rattle.jl_rows.specs.Reading as reading
 use Rattle.jl_rows.specs.Files as files
@@ -158,6 +159,13 @@ HasMaybe bytes (Some p) = HasPart bytes p
 pub record HasParts (bytes : List ℕ) (ps : List (Option Part)) : Type 0 where
   pub count : length ps ≡ groups
   pub each : (g : ℕ) → HasMaybe bytes (slice_index_or ps g None)
+
+-- what was found in a message, and that its texts are inside the bytes
+abbrev pub found_seen : Found → reading.Parts
+found_seen f = parts_seen f.bytes.now f.parts
+
+abbrev pub HasFound : Found → Type 0
+HasFound f = HasParts f.bytes.now f.parts
 
 -- A step on the groups answers what the definition says of them.
 abbrev pub Takes : List ℕ → Result reading.Parts Kind → List (Option Part) → Result (Unit {0}) Kind → Type 0

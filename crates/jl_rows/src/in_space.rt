@@ -1,8 +1,12 @@
 //! The readers over the bytes of an input.
 ghost use Rattle.std.specs.Prelude.{◌≡◌, ◌+◌, ◌≤◌, IfOk, IfSome};
 ghost use Rattle.jl_base.specs.Spans.{IsInside, text_of};
+ghost use Rattle.jl_rows.specs.Decoder as spec;
+ghost use Rattle.jl_rows.specs.Files.{HasShortFrames};
+ghost use Rattle.jl_rows.specs.Heads.{HasHead, head_seen};
 ghost use Rattle.jl_rows.specs.Seen.{HasTriple, IsNextRow, IsRowWithin, nested_at, nested_seen};
 
+use crate::first_row::{Head, head_at};
 use crate::read_row::next_row_at;
 use crate::row::{RawTriple, Row};
 use crate::triple_terms::triple_term_at;
@@ -32,4 +36,13 @@ pub fn triple_term(space: &Space, inner: Span) -> RawTriple
     ensures inside { HasTriple space.now result }
 {
     triple_term_at(space.bytes(), inner)
+}
+
+/// The head of a file with these bytes. It is found without reading further than the first row.
+pub fn head(space: &Space) -> Head
+    requires { HasShortFrames space.now }
+    ensures exact { head_seen space.now result ≡ spec.head space.now }
+    ensures passed { HasHead space.now result }
+{
+    head_at(space.bytes())
 }

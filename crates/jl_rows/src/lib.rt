@@ -5,17 +5,20 @@
 //! messages, rows, histories and the decoder. It stands on jl_wire and jl_base.
 #![tactic(auto)]
 
+mod first_row;
 mod frame;
 mod in_space;
 mod message;
 mod options;
+mod parts;
 mod read;
 mod read_row;
 mod row;
 mod triple_terms;
 
+pub use first_row::{Head, head_at};
 pub use frame::next_frame;
-pub use in_space::{next_row, triple_term};
+pub use in_space::{head, next_row, triple_term};
 pub use message::{Known, Message, Shape};
 pub use options::{Options, Physical};
 pub use read_row::next_row_at;

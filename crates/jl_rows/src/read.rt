@@ -9,90 +9,10 @@ ghost use Rattle.jl_rows.specs.Reading as spec;
 ghost use Rattle.jl_rows.specs.Seen.{ids_seen, term_seen, part_seen, maybe_seen, parts_seen, position_seen, ending_seen, HasTail, HasTerm, HasValue, HasPart, HasParts, HasMaybe, HasPosition, IsFree, Takes, nested_span};
 
 use crate::message::{Known, Message, Shape};
-use crate::row::{RawIri, RawTail, RawTerm};
+use crate::parts::{Found, GROUPS, Part, Parts};
+use crate::row::{RawIri, RawTerm};
 use jl_base::{Kind, Span};
 use jl_wire::{Field, Value, next_field, utf8};
-
-/// What a known field says.
-#[derive(Clone, Copy, Debug)]
-pub enum Part {
-    Number(u64),
-    Text(Span),
-    Said(RawTerm),
-}
-
-/// How many groups a message may have.
-pub const GROUPS: usize = 9;
-
-/// What the groups of a message say.
-pub type Parts = [Option<Part>; GROUPS];
-
-// A number's low 32 bits, or 0 where none stands.
-pub fn number(bytes: &[u8], part: Option<Part>) -> u32
-    ensures { result ≡ spec.number_32 (maybe_seen bytes.now part) }
-{
-    match part {
-        Some(Part::Number(n)) => (n % 4_294_967_296) as u32,
-        _ => 0,
-    }
-}
-
-// Whether a number stands that isn't 0.
-pub fn flag(bytes: &[u8], part: Option<Part>) -> bool
-    ensures { result ≡ spec.flag (maybe_seen bytes.now part) }
-{
-    match part {
-        Some(Part::Number(n)) => n != 0,
-        _ => false,
-    }
-}
-
-// A text, or the empty one where none stands.
-pub fn text(bytes: &[u8], part: Option<Part>) -> Span
-    requires { HasMaybe bytes.now part }
-    ensures exact { text_of bytes.now result ≡ spec.text (maybe_seen bytes.now part) }
-    ensures inside { IsInside bytes.now result }
-{
-    match part {
-        Some(Part::Text(span)) => span,
-        _ => Span { at: 0, len: 0 },
-    }
-}
-
-// A term, where one stands.
-pub fn term(bytes: &[u8], part: Option<Part>) -> Option<RawTerm>
-    requires { HasMaybe bytes.now part }
-    ensures exact { position_seen bytes.now result ≡ spec.term (maybe_seen bytes.now part) }
-    ensures inside { HasPosition bytes.now result }
-{
-    match part {
-        Some(Part::Said(t)) => Some(t),
-        _ => None,
-    }
-}
-
-// An IRI's ids, where an IRI stands.
-pub fn ids(bytes: &[u8], part: Option<Part>) -> Option<RawIri>
-    ensures { option_map ids_seen result ≡ spec.ids (maybe_seen bytes.now part) }
-{
-    match part {
-        Some(Part::Said(RawTerm::Iri(i))) => Some(i),
-        _ => None,
-    }
-}
-
-// The end of a literal: its tag, its datatype, or neither.
-fn ending(bytes: &[u8], part: Option<Part>) -> RawTail
-    requires { HasMaybe bytes.now part }
-    ensures exact { ending_seen bytes.now result ≡ spec.ending (maybe_seen bytes.now part) }
-    ensures inside { HasTail bytes.now result }
-{
-    match part {
-        Some(Part::Text(span)) => RawTail::Lang(span),
-        Some(Part::Number(n)) => RawTail::Typed((n % 4_294_967_296) as u32),
-        _ => RawTail::Simple,
-    }
-}
 
 // The content has another wire type than the shape's.
 fn is_wrong_wire(shape: Shape, value: Value) -> bool
@@ -194,10 +114,11 @@ fn iri(bytes: &[u8], span: Span) -> Result<RawIri, Kind>
     ensures { Gives ids_seen result (spec.iri (text_of bytes.now span)) }
 {
     let at = span.at as usize;
-    let found = read_plain(bytes, at, at + span.len as usize, Message::Iri)?;
+    let parts = read_plain(bytes, at, at + span.len as usize, Message::Iri)?;
+    let found = Found { bytes, parts };
     Ok(RawIri {
-        prefix: number(bytes, found[0]),
-        name: number(bytes, found[1]),
+        prefix: found.number(0),
+        name: found.number(1),
     })
 }
 
@@ -209,10 +130,11 @@ fn literal(bytes: &[u8], span: Span) -> Result<RawTerm, Kind>
     ensures inside { IfOk result (HasTerm bytes.now) }
 {
     let at = span.at as usize;
-    let found = read_plain(bytes, at, at + span.len as usize, Message::Literal)?;
+    let parts = read_plain(bytes, at, at + span.len as usize, Message::Literal)?;
+    let found = Found { bytes, parts };
     Ok(RawTerm::Literal {
-        lex: text(bytes, found[0]),
-        tail: ending(bytes, found[1]),
+        lex: found.text(0),
+        tail: found.ending(1),
     })
 }
 

@@ -12,7 +12,8 @@ ghost use Rattle.jl_rows.specs.Seen.{parts_seen, options_seen, row_seen, HasMayb
 
 use crate::Options;
 use crate::message::{Message, Sort, sort_of};
-use crate::read::{Parts, empty, flag, ids, number, read, term, text};
+use crate::parts::{Found, Parts};
+use crate::read::{empty, read};
 use crate::row::{RawQuad, RawTriple, Row, Table};
 use jl_base::{Kind, Span};
 use jl_wire::{Field, Value, next_field};
@@ -37,17 +38,18 @@ fn options(bytes: &[u8], span: Span) -> Result<Options, Kind>
     ensures exact { Gives (options_seen bytes.now) result (spec.options (text_of bytes.now span)) }
     ensures inside { IfOk result (λ o. IsInside bytes.now o.stream_name) }
 {
-    let found = message(bytes, span, Message::Options)?;
+    let parts = message(bytes, span, Message::Options)?;
+    let found = Found { bytes, parts };
     Ok(Options {
-        stream_name: text(bytes, found[0]),
-        physical: number(bytes, found[1]),
-        generalized: flag(bytes, found[2]),
-        star: flag(bytes, found[3]),
-        names: number(bytes, found[4]),
-        prefixes: number(bytes, found[5]),
-        datatypes: number(bytes, found[6]),
-        logical: number(bytes, found[7]),
-        version: number(bytes, found[8]),
+        stream_name: found.text(0),
+        physical: found.number(1),
+        generalized: found.flag(2),
+        star: found.flag(3),
+        names: found.number(4),
+        prefixes: found.number(5),
+        datatypes: found.number(6),
+        logical: found.number(7),
+        version: found.number(8),
     })
 }
 
@@ -57,11 +59,12 @@ fn triple(bytes: &[u8], span: Span) -> Result<Row, Kind>
     ensures exact { Gives (row_seen bytes.now) result (spec.triple (text_of bytes.now span)) }
     ensures inside { IfOk result (HasRow bytes.now) }
 {
-    let found = message(bytes, span, Message::Triple)?;
+    let parts = message(bytes, span, Message::Triple)?;
+    let found = Found { bytes, parts };
     Ok(Row::Triple(RawTriple {
-        s: term(bytes, found[0]),
-        p: term(bytes, found[1]),
-        o: term(bytes, found[2]),
+        s: found.term(0),
+        p: found.term(1),
+        o: found.term(2),
     }))
 }
 
@@ -71,12 +74,13 @@ fn quad(bytes: &[u8], span: Span) -> Result<Row, Kind>
     ensures exact { Gives (row_seen bytes.now) result (spec.quad (text_of bytes.now span)) }
     ensures inside { IfOk result (HasRow bytes.now) }
 {
-    let found = message(bytes, span, Message::Quad)?;
+    let parts = message(bytes, span, Message::Quad)?;
+    let found = Found { bytes, parts };
     Ok(Row::Quad(RawQuad {
-        s: term(bytes, found[0]),
-        p: term(bytes, found[1]),
-        o: term(bytes, found[2]),
-        g: term(bytes, found[3]),
+        s: found.term(0),
+        p: found.term(1),
+        o: found.term(2),
+        g: found.term(3),
     }))
 }
 
@@ -86,8 +90,9 @@ fn graph_start(bytes: &[u8], span: Span) -> Result<Row, Kind>
     ensures exact { Gives (row_seen bytes.now) result (spec.graph_start (text_of bytes.now span)) }
     ensures inside { IfOk result (HasRow bytes.now) }
 {
-    let found = message(bytes, span, Message::GraphStart)?;
-    Ok(Row::GraphStart(term(bytes, found[0])))
+    let parts = message(bytes, span, Message::GraphStart)?;
+    let found = Found { bytes, parts };
+    Ok(Row::GraphStart(found.term(0)))
 }
 
 #[tactic(auto, unfolding(crate::specs::Rows::namespace))]
@@ -96,10 +101,11 @@ fn namespace(bytes: &[u8], span: Span) -> Result<Row, Kind>
     ensures exact { Gives (row_seen bytes.now) result (spec.namespace (text_of bytes.now span)) }
     ensures inside { IfOk result (HasRow bytes.now) }
 {
-    let found = message(bytes, span, Message::Namespace)?;
+    let parts = message(bytes, span, Message::Namespace)?;
+    let found = Found { bytes, parts };
     Ok(Row::Namespace {
-        name: text(bytes, found[0]),
-        iri: ids(bytes, found[1]),
+        name: found.text(0),
+        iri: found.ids(1),
     })
 }
 
@@ -109,11 +115,12 @@ fn entry(bytes: &[u8], table: Table, span: Span) -> Result<Row, Kind>
     ensures exact { Gives (row_seen bytes.now) result (spec.entry table (text_of bytes.now span)) }
     ensures inside { IfOk result (HasRow bytes.now) }
 {
-    let found = message(bytes, span, Message::Entry)?;
+    let parts = message(bytes, span, Message::Entry)?;
+    let found = Found { bytes, parts };
     Ok(Row::Entry {
         table,
-        id: number(bytes, found[0]),
-        text: text(bytes, found[1]),
+        id: found.number(0),
+        text: found.text(1),
     })
 }
 

@@ -4,7 +4,8 @@ ghost use Rattle.jl_base.specs.Spans.{IsInside, text_of};
 ghost use Rattle.jl_rows.specs.Seen.{HasTriple, ReadsAgain, nested_at, nested_seen};
 
 use crate::message::Message;
-use crate::read::{read, term};
+use crate::parts::Found;
+use crate::read::read;
 use crate::row::RawTriple;
 use jl_base::Span;
 
@@ -19,23 +20,19 @@ pub fn triple_term_at(bytes: &[u8], inner: Span) -> RawTriple
     ensures inside { HasTriple bytes.now result }
 {
     let at = inner.at as usize;
-    match read(
-        bytes,
-        at,
-        at + inner.len as usize,
-        Message::Triple,
-        MOST_INSIDE,
-    ) {
-        Ok(found) => RawTriple {
-            s: term(bytes, found[0]),
-            p: term(bytes, found[1]),
-            o: term(bytes, found[2]),
-        },
-        Err(_) => RawTriple {
+    let end = at + inner.len as usize;
+    let Ok(parts) = read(bytes, at, end, Message::Triple, MOST_INSIDE) else {
+        return RawTriple {
             s: None,
             p: None,
             o: None,
-        },
+        };
+    };
+    let found = Found { bytes, parts };
+    RawTriple {
+        s: found.term(0),
+        p: found.term(1),
+        o: found.term(2),
     }
 }
 

@@ -1,0 +1,26 @@
+-- What the code's head of a file stands for, and what is known of the options in it.
+use Rattle.std.specs.Prelude.{ℕ, ◌≤◌, List}
+use Rattle.jl_base.specs.Spans.{IsInside}
+use Rattle.jl_rows.specs.declared.options.Options.{Options}
+use Rattle.jl_rows.specs.declared.first_row.Head as code
+use Rattle.jl_rows.specs.declared.first_row.Head.TheVariants.{Empty, First, Bad}
+use Rattle.jl_rows.specs.Decoder.{Head, most_entries}
+use Rattle.jl_rows.specs.Seen.{options_seen, HasForm}
+
+abbrev pub head_seen : List ℕ → code.Head → Head
+head_seen bytes Empty = Head.Nothing
+head_seen bytes (First o place) = Head.First (options_seen bytes o) place
+head_seen bytes (Bad fault) = Head.Bad fault
+
+-- What the checks of the first row tell of its options.
+pub record ArePassed (bytes : List ℕ) (o : Options) : Type 0 where
+  pub inside : IsInside bytes o.stream_name
+  pub form : HasForm o
+  pub names : o.names ≤ most_entries
+  pub prefixes : o.prefixes ≤ most_entries
+  pub datatypes : o.datatypes ≤ most_entries
+
+abbrev pub HasHead : List ℕ → code.Head → Type 0
+HasHead bytes Empty = Unit {0}
+HasHead bytes (First o place) = ArePassed bytes o
+HasHead bytes (Bad fault) = Unit {0}

@@ -1,0 +1,99 @@
+//! The head of a file: its first row, and the checks of it.
+ghost use Rattle.std.specs.Prelude.{◌≡◌, IfOk};
+ghost use Rattle.jl_base.specs.Results.{Gives};
+ghost use Rattle.jl_rows.specs.Decoder as spec;
+ghost use Rattle.jl_rows.specs.Files.{HasShortFrames, fault_at, place_at};
+ghost use Rattle.jl_rows.specs.Heads.{ArePassed, HasHead, head_seen};
+ghost use Rattle.jl_rows.specs.Seen.{HasRow, options_seen, row_seen};
+
+use crate::Options;
+use crate::frame::next_frame;
+use crate::read_row::next_row_at;
+use crate::row::Row;
+use jl_base::{Fault, Kind, Place};
+
+/// What a file begins with.
+#[derive(Clone, Copy, Debug)]
+pub enum Head {
+    /// The file has no rows and no fault.
+    Empty,
+    /// The options of the first row, which passed their checks, and its place.
+    First(Options, Place),
+    /// The fault in front of the first row, or its own.
+    Bad(Fault),
+}
+
+/// How many entries a lookup table may have.
+const MOST_ENTRIES: u32 = 65_536;
+
+/// The head of a file with these bytes. It is found without reading further than the first row.
+pub fn head_at(bytes: &[u8]) -> Head
+    requires { HasShortFrames bytes.now }
+    ensures exact { head_seen bytes.now result ≡ spec.head bytes.now }
+    ensures passed { HasHead bytes.now result }
+{
+    let end = bytes.len();
+    let mut at = 0;
+    let mut frame: u64 = 1;
+    'frames: loop {
+        let (start, stop) = match next_frame(bytes, at, end) {
+            Ok(Some(body)) => body,
+            Ok(None) => return Head::Empty,
+            Err(kind) => return bad(frame, 0, kind),
+        };
+        match next_row_at(bytes, start, stop) {
+            Ok(Some((row, _))) => return checked(bytes, frame, row),
+            Ok(None) => {
+                at = stop;
+                frame += 1;
+            }
+            Err(kind) => return bad(frame, 1, kind),
+        }
+    }
+}
+
+fn bad(frame: u64, row: u32, kind: Kind) -> Head
+    ensures { result ≡ Head.Bad (fault_at frame row kind) }
+{
+    Head::Bad(Fault {
+        place: Place { frame, row },
+        kind,
+    })
+}
+
+// The head of a file whose first row is this one, the first of its frame.
+fn checked(bytes: &[u8], frame: u64, row: Row) -> Head
+    requires { HasRow bytes.now row }
+    ensures exact { head_seen bytes.now result ≡ spec.head_checked (place_at frame 1) (spec.first_row_checked (row_seen bytes.now row)) }
+    ensures passed { HasHead bytes.now result }
+{
+    match first_row_checked(bytes, row) {
+        Ok(options) => Head::First(options, Place { frame, row: 1 }),
+        Err(kind) => bad(frame, 1, kind),
+    }
+}
+
+// The options of a file's first row, where it has them and they pass their checks.
+fn first_row_checked(bytes: &[u8], row: Row) -> Result<Options, Kind>
+    requires { HasRow bytes.now row }
+    ensures exact { Gives (options_seen bytes.now) result (spec.first_row_checked (row_seen bytes.now row)) }
+    ensures passed { IfOk result (ArePassed bytes.now) }
+{
+    let Row::Options(options) = row else {
+        return Err(Kind::NoOptions);
+    };
+    if options.physical == 0
+        || options.physical > 3
+        || options.version == 0
+        || options.version > 2
+    {
+        return Err(Kind::BadOptions);
+    }
+    if options.names > MOST_ENTRIES
+        || options.prefixes > MOST_ENTRIES
+        || options.datatypes > MOST_ENTRIES
+    {
+        return Err(Kind::TableTooLarge);
+    }
+    Ok(options)
+}

@@ -80,6 +80,16 @@ impl Extent {
         }
     }
 
+    /// The text.
+    #[inline]
+    pub fn text(self, bytes: &[u8]) -> &[u8]
+        requires { IsHeld bytes.now self }
+        ensures { result.now ≡ text_in bytes.now self }
+    {
+        let at = (self.at % MARK) as usize;
+        &bytes[at..at + self.len as usize]
+    }
+
     /// An IRI of this text is written as it is.
     #[inline]
     pub fn is_clean(self) -> bool

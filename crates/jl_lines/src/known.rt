@@ -1,0 +1,41 @@
+//! The text of a term, from where its texts lie.
+ghost use Rattle.std.specs.Prelude.{◌≡◌, ◌++◌, OnOk, codes};
+ghost use Rattle.jl_text.specs.Line.{term_text, tail_text, iri_text};
+ghost use Rattle.jl_state.specs.Extents.{text_in, IsSound};
+ghost use Rattle.jl_state.specs.KnownTerms.{known_value, tail_value, HasKnown, HasTail};
+
+use jl_state::{Extent, Known, KnownTail};
+use jl_text::{push_clean_iri_at, push_datatype_at, push_iri, push_label_at, push_string_at, push_tag_at};
+use std::alloc::AllocError;
+
+/// Appends an IRI by its prefix and its name.
+#[inline]
+pub fn push_iri_of(out: &mut Vec<u8>, bytes: &[u8], prefix: Extent, name: Extent) -> Result<(), AllocError>
+    requires prefix { IsSound bytes.now prefix }
+    requires name { IsSound bytes.now name }
+    ensures { OnOk result (out.new.items ≡ out.old.items ++ iri_text (text_in bytes.now prefix ++ text_in bytes.now name)) }
+{
+    if prefix.is_clean() && name.is_clean() {
+        return push_clean_iri_at(out, bytes, prefix.span(), name.span());
+    }
+    push_iri(out, prefix.text(bytes), name.text(bytes))
+}
+
+// Appends what follows a literal's string.
+#[inline]
+#[tactic(auto, unfolding(jl_text::specs::Line::tail_text))]
+fn push_tail(out: &mut Vec<u8>, bytes: &[u8], tail: KnownTail) -> Result<(), AllocError>
+    requires { HasTail bytes.now tail }
+    ensures { OnOk result (out.new.items ≡ out.old.items ++ tail_text (tail_value bytes.now tail)) }
+{
+    match tail {
+        KnownTail::Simple => Ok(()),
+        KnownTail::Lang(tag) => push_tag_at(out, bytes, tag.span()),
+        KnownTail::Typed(datatype) => {
+            if datatype.is_xsd_string() {
+                return Ok(());
+            }
+            push_datatype_at(out, bytes, datatype.span(), datatype.is_clean())
+        }
+    }
+}

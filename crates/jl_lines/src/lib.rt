@@ -1,0 +1,8 @@
+//! The N-Quads lines of a file, written straight from its bytes while its rows are read.
+//!
+//! It promises that what it gives a sink is a front of the decoder's lines: all of them where nothing failed, those
+//! before the first fault where there is one. It stands on jl_state, jl_rows and jl_text.
+#![tactic(auto)]
+
+mod known;
+mod statement;

@@ -8,6 +8,7 @@
 
 mod calls;
 mod err_sink;
+mod failed;
 mod file_shelf;
 mod file_source;
 mod kind;
@@ -22,6 +23,7 @@ mod term;
 mod text;
 
 pub use err_sink::ErrSink;
+pub use failed::Failed;
 pub use file_shelf::FileShelf;
 pub use file_source::FileSource;
 pub use kind::{Kind, kind_name};
@@ -30,7 +32,7 @@ pub use mem_source::MemSource;
 pub use place::{Fault, Place, Run, Span};
 pub use seq::Seq;
 pub use sink::{Shelf, Sink, write_all};
-pub use source::{Failed, Source};
+pub use source::Source;
 pub use space::{FillFault, Space};
 pub use term::{Item, Items, Tail, Term, Three};
 pub use text::Text;

@@ -4,9 +4,7 @@ ghost use Rattle.std.specs.Io.KnownBytes.{IsAtEnd};
 ghost use Rattle.jl_base.specs.Causes.{Rose};
 ghost use Rattle.jl_base.specs.Sources.{Told, Reads, moved};
 
-/// A device failed. It counted that.
-#[derive(Clone, Copy, Debug, PartialEq, Eq)]
-pub struct Failed;
+use crate::Failed;
 
 /// Something that bytes are read from.
 pub trait Source {

@@ -2,9 +2,9 @@
 ghost use Rattle.std.specs.Prelude.{◌≡◌, ◌++◌, OnOk, codes};
 ghost use Rattle.jl_text.specs.Line.{term_text, tail_text, iri_text};
 ghost use Rattle.jl_state.specs.Extents.{text_in, IsSound};
-ghost use Rattle.jl_state.specs.KnownTerms.{known_value, tail_value, HasKnown, HasTail};
+ghost use Rattle.jl_state.specs.KnownTerms.{known_value, tail_value, AreParts, HasKnown, HasTail};
 
-use jl_state::{Extent, Known, KnownTail};
+use jl_state::{Extent, Known, KnownTail, KnownThree};
 use jl_text::{push_clean_iri_at, push_datatype_at, push_iri, push_label_at, push_string_at, push_tag_at};
 use std::alloc::AllocError;
 
@@ -38,4 +38,41 @@ fn push_tail(out: &mut Vec<u8>, bytes: &[u8], tail: KnownTail) -> Result<(), All
             push_datatype_at(out, bytes, datatype.span(), datatype.is_clean())
         }
     }
+}
+
+/// Appends a term's text; the default graph has none.
+#[cycle(push)]
+#[tactic(auto, unfolding(jl_text::specs::Line::term_text))]
+pub fn push_known(out: &mut Vec<u8>, bytes: &[u8], term: &Known) -> Result<(), AllocError>
+    requires { HasKnown bytes.now term.now }
+    ensures { OnOk result (out.new.items ≡ out.old.items ++ term_text (known_value bytes.now term.now)) }
+{
+    match term {
+        Known::Iri { prefix, name } => push_iri_of(out, bytes, *prefix, *name),
+        Known::Bnode(label) => push_label_at(out, bytes, label.span()),
+        Known::Literal { lex, tail } => {
+            push_string_at(out, bytes, lex.span())?;
+            push_tail(out, bytes, *tail)
+        }
+        Known::Triple(three) => push_three(out, bytes, term, three.get()),
+        Known::Default => Ok(()),
+    }
+}
+
+// Appends a triple term, whose three these are.
+#[cycle(push)]
+#[tactic(auto, unfolding(jl_text::specs::Line::term_text))]
+fn push_three(out: &mut Vec<u8>, bytes: &[u8], whole: &Known, three: &KnownThree) -> Result<(), AllocError>
+    requires has { HasKnown bytes.now whole.now }
+    requires parts { AreParts bytes.now whole.now three.now }
+    ensures { OnOk result (out.new.items ≡ out.old.items ++ term_text (known_value bytes.now whole.now)) }
+{
+    out.extend_from_slice(b"<< ")?;
+    push_known(out, bytes, &three.s)?;
+    out.push(b' ')?;
+    push_known(out, bytes, &three.p)?;
+    out.push(b' ')?;
+    push_known(out, bytes, &three.o)?;
+    out.extend_from_slice(b" >>")?;
+    Ok(())
 }

@@ -6,3 +6,6 @@
 
 mod known;
 mod statement;
+mod write;
+
+pub use write::{Ended, write_lines};

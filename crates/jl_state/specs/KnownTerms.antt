@@ -1,5 +1,6 @@
 -- What a known term means: its texts in place of where they lie.
-use Rattle.std.specs.Prelude.{ℕ, ◌++◌, List, Option, Some, None}
+use Rattle.std.specs.Prelude.{◌≡◌, ℕ, ◌+◌, ◌<◌, max, ◌++◌, List}
+use Rattle.jl_state.specs.declared.known.KnownThree.{KnownThree}
 use Rattle.jl_base.specs.Terms as terms
 use Rattle.jl_state.specs.declared.extent.Extent.{Extent}
 use Rattle.jl_state.specs.declared.known.KnownTail.{KnownTail}
@@ -41,3 +42,22 @@ abbrev mutual
   pub HasThree : {m : _} → List ℕ → Row_of-KnownThree m → Type 0
   HasThree bytes end_of-KnownThree = Unit {0}
   HasThree bytes (more_of-KnownThree s p o rest) = HasKnown bytes s × HasKnown bytes p × HasKnown bytes o
+
+-- how deep a value nests
+abbrev pub depth : terms.Value → ℕ
+depth (terms.Iri t) = 0
+depth (terms.Bnode t) = 0
+depth (terms.Literal t e) = 0
+depth (terms.Nested s p o) = max (depth s) (max (depth p) (depth o)) + 1
+depth terms.Default = 0
+
+-- The terms of a triple term, where they are held: each is less deep than the whole, and keeps what the whole keeps.
+pub record ArePart (bytes : List ℕ) (whole part : Known) : Type 0 where
+  pub less : depth (known_value bytes part) < depth (known_value bytes whole)
+  pub has : HasKnown bytes whole → HasKnown bytes part
+
+pub record AreParts (bytes : List ℕ) (whole : Known) (three : KnownThree) : Type 0 where
+  pub s : ArePart bytes whole three.s
+  pub p : ArePart bytes whole three.p
+  pub o : ArePart bytes whole three.o
+  pub value : known_value bytes whole ≡ terms.Nested (known_value bytes three.s) (known_value bytes three.p) (known_value bytes three.o)

@@ -1,0 +1,34 @@
+//! The words of a command line.
+ghost use Rattle.std.specs.Prelude.{◌≡◌};
+ghost use Rattle.jl_top.specs.Jobs.{job_of, is_file};
+
+use crate::{Command, Job};
+use jl_base::Text;
+
+fn is_file(word: &[u8]) -> bool
+    ensures { result ≡ is_file word.now }
+{
+    !word.is_empty() && !word.starts_with(b"--")
+}
+
+/// The job that the words ask for, where they ask for one. The words don't include the program's name. Takes no memory.
+pub fn job(words: &[Text]) -> Option<Job>
+    ensures { result ≡ job_of words.now }
+{
+    let [command, file] = words else {
+        return None;
+    };
+    if command.bytes() != b"nquads".as_slice() || !is_file(file.bytes()) {
+        return None;
+    }
+    Some(Job {
+        command: Command::Nquads,
+        workers: 4,
+        run: 16,
+        items: 0,
+        per: 256,
+        number: 0,
+        out: None,
+        first: 1,
+    })
+}

@@ -1,5 +1,5 @@
 //! The words of a command line.
-ghost use Rattle.std.specs.Prelude.{◌≡◌};
+ghost use Rattle.std.specs.Prelude.{◌≡◌, ◌≤◌, length, IfSome};
 ghost use Rattle.jl_top.specs.Jobs.{job_of, is_file};
 
 use crate::{Command, Job};
@@ -13,7 +13,8 @@ fn is_file(word: &[u8]) -> bool
 
 /// The job that the words ask for, where they ask for one. The words don't include the program's name. Takes no memory.
 pub fn job(words: &[Text]) -> Option<Job>
-    ensures { result ≡ job_of words.now }
+    ensures job { result ≡ job_of words.now }
+    ensures files { IfSome result (λ job. job.first ≤ length words.now) }
 {
     let [command, file] = words else {
         return None;

@@ -1,0 +1,99 @@
+//! The program: its arguments as words, and the devices of the system, for `jl_top` to serve.
+//!
+//! It ends with the status of that call. Where an argument isn't text it ends with 2, and where there is no memory before
+//! that call with 5, and in both cases it has written nothing.
+#![tactic(auto)]
+
+ghost use Rattle.std.specs.Prelude.{◌≡◌, length, map, vec_len, IfOk};
+ghost use Rattle.jl_base.specs.FileSources.{name_of};
+ghost use Rattle.jl_top.specs.Jobs.{job_of, files_of};
+
+use jl_base::{ErrSink, FileShelf, FileSource, Text};
+use jl_top::{Gate, job, serve};
+use std::alloc::{AllocError, Global};
+use std::process::ExitCode;
+use std::rt::{Files, Runtime};
+use std::thread::Threads;
+use std::{env, io};
+
+// Why the program ends before it has served.
+#[derive(Clone, Copy)]
+enum Refusal {
+    // An argument isn't text, or can't be read.
+    Usage,
+    NoMemory,
+}
+
+impl From<AllocError> for Refusal {
+    fn from(_error: AllocError) -> Refusal {
+        Refusal::NoMemory
+    }
+}
+
+impl From<io::Error> for Refusal {
+    fn from(error: io::Error) -> Refusal {
+        match error.kind() {
+            io::ErrorKind::OutOfMemory => Refusal::NoMemory,
+            _ => Refusal::Usage,
+        }
+    }
+}
+
+// A gate that looks at nothing.
+struct Open;
+
+impl Gate for Open {
+    fn enter(&self, _worker: u32, _run: u64) {}
+}
+
+// The arguments behind the program's name, as words.
+fn words(alloc: Global, arguments: env::Args) -> Result<Vec<Text>, AllocError> {
+    let mut words = Vec::new(alloc);
+    for argument in arguments.skip(1) {
+        words.push(Text::from_bytes(alloc, argument.as_bytes())?)?;
+    }
+    Ok(words)
+}
+
+// The words that name the files of the job, and none where there is no job.
+fn files(words: &[Text]) -> &[Text]
+    ensures { result.now ≡ files_of words.now (job_of words.now) }
+{
+    match job(words) {
+        Some(job) => &words[job.first..],
+        None => &[],
+    }
+}
+
+// A source for each file, in order.
+fn sources<'a, R: Files>(
+    rt: &'a R,
+    alloc: Global,
+    names: &[Text],
+) -> Result<Vec<FileSource<&'a R>>, AllocError>
+    ensures number { IfOk result (λ sources. vec_len sources ≡ length names.now) }
+    ensures names { IfOk result (λ sources. map name_of sources.items ≡ names.now) }
+{
+    let mut sources = Vec::new(alloc);
+    for name in names {
+        sources.push(FileSource::new(rt, name.copy()?))?;
+    }
+    Ok(sources)
+}
+
+fn run<R: Runtime + AllocGlobal + Threads + Sync>(rt: &R) -> Result<u8, Refusal> {
+    let alloc = rt.alloc();
+    let words = words(alloc, env::args(rt)?)?;
+    let mut sources = sources(rt, alloc, files(&words))?;
+    let mut out = FileShelf::new(rt, alloc, None, false)?;
+    let mut err = ErrSink::new(rt);
+    Ok(serve(rt, alloc, &words, &mut sources, &mut out, &mut err, &Open))
+}
+
+fn main(rt: HostRuntime) -> ExitCode {
+    ExitCode::from(match run(&rt) {
+        Ok(status) => status,
+        Err(Refusal::Usage) => 2,
+        Err(Refusal::NoMemory) => 5,
+    })
+}

@@ -5,6 +5,7 @@
 #![tactic(auto)]
 
 mod known;
+mod lines;
 mod statement;
 mod write;
 

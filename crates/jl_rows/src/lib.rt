@@ -14,6 +14,8 @@ mod parts;
 mod read;
 mod read_row;
 mod row;
+#[cfg(test)]
+mod tests;
 mod triple_terms;
 
 pub use first_row::{Head, head_at};

@@ -1,7 +1,5 @@
-use Rattle.std.proofs.Common.{◌∙◌, sym, ap, arith, Option, Some, None}
-use Rattle.std.specs.Option.{option_map}
+use Rattle.std.proofs.Common.{◌∙◌, arith, Some, None}
 use Rattle.std.proofs.lemmas.Result.{err_from_is_err_and}
-use Rattle.jl_rows.specs.Written as written
 use Rattle.jl_rows.specs.Seen.{row_seen}
 use Rattle.jl_rows.proofs.RowWalking.{rows_end, rows_fault, rows_took, rows_refused}
 use Rattle.jl_rows.proofs.read_row.next_row_at.Goals as goal

@@ -4,7 +4,7 @@ use Rattle.std.specs.Ordering.{nat_cmp}
 use Rattle.std.specs.Coded.{Coded, code_by, coded×, coded_ℕ, coded_list, coded_option}
 use Rattle.std.specs.FinMap.{FinMap, code, empty, get, insert}
 
--- Of one cell: which it is, by a name that no other cell has, and its value, where that was seen.
+-- Of one cell: which it is, by its name, and its value, where that was seen.
 pub record Seen (X : Type 0) : Type 0 where
   pub cell : ℕ
   pub value : Option X
@@ -53,4 +53,9 @@ seen_coded {X} x = code_by (ℕ × Option X) (coded× coded_ℕ (coded_option x)
 
 abbrev pub knowledge_coded : {X : Type 0} → Coded X → Coded (Knowledge X)
 knowledge_coded {X} x =
-    code_by (List ℕ × FinMap nat_cmp X) (coded× (coded_list coded_ℕ) (code coded_ℕ x)) (λ k. (k.cells, k.known)) (λ p. record { cells = p.0; known = p.1 }) (λ _. refl)
+    code_by
+    (List ℕ × FinMap nat_cmp X)
+    (coded× (coded_list coded_ℕ) (code coded_ℕ x))
+    (λ k. (k.cells, k.known))
+    (λ p. record { cells = p.0; known = p.1 })
+    (λ _. refl)

@@ -102,12 +102,6 @@ fn later_pass_finds_what_others_put(rt: HostRuntime) -> Result<(), Fail> {
     let done = thread::map_vec(&rt, numbers, &|number| call(alloc, shared, gate, number))?;
     let mut later = shared.pass(alloc)?;
     let values = look_at_all(alloc, shared, &mut later)?;
-    for (i, value) in values.iter().enumerate() {
-        assert!(rt;
-            value.is_some() && (i == 0 || *value == Some(i as u64 % CALLERS)),
-            "cell {i}: {value:?}"
-        );
-    }
     for found in &done {
         let Ok(Found { values: seen, met }) = found else {
             panic!(rt; "no memory")
@@ -116,6 +110,12 @@ fn later_pass_finds_what_others_put(rt: HostRuntime) -> Result<(), Fail> {
         for (mine, last) in seen.iter().zip(&values) {
             assert!(rt; mine.is_none() || mine == last, "{mine:?}, {last:?}");
         }
+    }
+    for (i, value) in values.iter().enumerate() {
+        assert!(rt;
+            value.is_some() && (i == 0 || *value == Some(i as u64 % CALLERS)),
+            "cell {i}: {value:?}"
+        );
     }
     Ok(())
 }

@@ -3,7 +3,7 @@ ghost use Rattle.std.specs.Prelude.{◌≡◌, ◌+◌, ◌-◌, ◌<◌, ◌≤
 ghost use Rattle.jl_rows.specs.Files as files;
 ghost use Rattle.jl_rows.specs.Seen.{options_seen};
 ghost use Rattle.jl_state.specs.Lawful.{state_seen, IsLawful};
-ghost use Rattle.jl_lines.specs.Going.{Comes, ComesOn, rest_of};
+ghost use Rattle.jl_lines.specs.Going.{Comes, ComesOn, behind, rest_of};
 
 use crate::lines::{Broken, Lines};
 use jl_base::{Fault, Kind, Place, Sink};
@@ -59,5 +59,27 @@ impl Lines {
         }
         self.give(out)?;
         Ok(Some(next))
+    }
+
+    // The lines of a frame whose body begins at a place.
+    pub(crate) fn frame<K: Sink>(&mut self, alloc: Global, bytes: &[u8], at: usize, frame: Frame, out: &mut K) -> Result<(), Broken>
+        requires lawful { IsLawful bytes.now self.old.state }
+        requires short { length bytes.now ≤ 2 ^ 30 }
+        requires start { at ≤ frame.end }
+        requires inside { frame.end ≤ length bytes.now }
+        ensures comes { Comes (options_seen bytes.now self.old.state.options) (state_seen bytes.now self.old.state) self.old.buffer.items (rest_of bytes.now frame 0 at)
+            (state_seen bytes.now self.new.state) self.new.buffer.items (behind bytes.now frame.number frame.end)
+            (K.held out.old) (K.held out.new) (K.faults out.old) (K.faults out.new) result }
+        ensures later { K.faults out.old ≤ K.faults out.new }
+        ensures lawful { OnOk result (IsLawful bytes.now self.new.state) }
+        ensures options { self.new.state.options ≡ self.old.state.options }
+    {
+        let mut place = at;
+        let mut before = 0;
+        'by_row: while let Some(next) = self.next(alloc, bytes, place, frame, before, out)? {
+            place = next;
+            before += 1;
+        }
+        Ok(())
     }
 }

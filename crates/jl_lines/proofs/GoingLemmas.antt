@@ -34,7 +34,7 @@ unfolding run
 run_none o s fault = refl
 
 -- a count that rose since rose since an earlier moment too
-rose_earlier : (f f' f'' : ℕ) → f ≤ f' → Rose f' f'' → Rose f f''
+pub rose_earlier : (f f' f'' : ℕ) → f ≤ f' → Rose f' f'' → Rose f f''
 rose_earlier f f' f'' later rose = omega arith
 
 earlier : (x y : Option Fault) (left buffer : List ℕ) (f f' f'' : ℕ) (why : Broken) → f ≤ f' → x ≡ y → IsBrokenBy y left buffer f' f'' why → IsBrokenBy x left buffer f f'' why

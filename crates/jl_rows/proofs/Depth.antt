@@ -1,16 +1,15 @@
 -- What is read within a depth is read the same within a greater one.
-use Rattle.std.proofs.Common.{◌≡◌, ℕ, zero, suc, ◌+◌, ◌-◌, ◌≤◌, ◌<◌, List, [], ◌∷◌, Option, Some, None, is_some, Result, Ok, Err, refl, ap, sym, ◌∙◌, slice_set, subst, arith}
+use Rattle.std.proofs.Common.{◌≡◌, ℕ, zero, suc, ◌+◌, List, [], ◌∷◌, Option, Some, None, is_some, Result, Ok, ap, ◌∙◌, arith}
 use Rattle.jl_base.specs.Results.{◌>>=◌, refuse_if}
 use Rattle.jl_base.specs.declared.kind.Kind.{Kind}
-use Rattle.jl_base.specs.declared.kind.Kind.TheVariants.{WrongWire, Twice, TooDeep}
+use Rattle.jl_base.specs.declared.kind.Kind.TheVariants.{WrongWire, Twice}
 use Rattle.jl_wire.specs.Fields.{Content, Field, fields}
 use Rattle.jl_rows.specs.declared.message.Message.{Message}
 use Rattle.jl_rows.specs.declared.message.Shape.{Shape}
 use Rattle.jl_rows.specs.declared.message.Known.{Known}
-use Rattle.jl_rows.specs.Written.{Term}
 use Rattle.jl_rows.specs.Messages.{known_as}
-use Rattle.jl_rows.specs.Reading.{Part, Parts, part, term, is_wrong_wire, taken, taken_if_known, walk, read, read_on, content_said, nothing_said}
-use Rattle.jl_rows.proofs.Binding.{Bound, bound}
+use Rattle.jl_rows.specs.Reading.{Part, Parts, part, is_wrong_wire, taken, taken_if_known, walk, read, read_on, content_said, nothing_said}
+use Rattle.jl_rows.proofs.Binding.{bound}
 
 abbrev pub Says : Type 0
 Says = Shape → Content → Result Part Kind

@@ -1,8 +1,8 @@
 -- Laws of frames: how long they are, and how they follow one another.
-use Rattle.std.proofs.Common.{◌≡◌, ℕ, zero, suc, ◌+◌, ◌-◌, ◌<◌, ◌≤◌, List, [], ◌∷◌, length, take, drop, slice_range, Some, None, Result, Ok, Err, true, false, nat_lt, if◌then◌else◌, refl, ◌∙◌, ap, arith, length-drop}
+use Rattle.std.proofs.Common.{◌≡◌, ℕ, zero, suc, ◌+◌, ◌-◌, ◌<◌, ◌≤◌, List, [], ◌∷◌, length, take, drop, slice_range, Some, None, Ok, Err, true, false, nat_lt, if◌then◌else◌, refl, ◌∙◌, ap, arith, length-drop}
 use Rattle.std.proofs.lemmas.Bool.{ltb-false, le-ltb, lt-ltb}
 use Rattle.std.proofs.lemmas.List.{length-take-le}
-use Rattle.jl_base.specs.Results.{◌>>=◌, with_front}
+use Rattle.jl_base.specs.Results.{with_front}
 use Rattle.jl_base.specs.declared.kind.Kind.{Kind}
 use Rattle.jl_base.specs.declared.kind.Kind.TheVariants.{Truncated}
 use Rattle.jl_wire.specs.Varint.{varint}

@@ -1,10 +1,10 @@
 -- The head of a file whose first frames have no rows.
-use Rattle.std.proofs.Common.{◌≡◌, ℕ, ◌+◌, ◌-◌, ◌<◌, ◌≤◌, ◌^◌, List, [], length, take, drop, slice_range, Option, Some, None, refl, ◌∙◌, ap, sym, subst, arith}
-use Rattle.jl_base.specs.Results.{Reading, joined, with_front}
+use Rattle.std.proofs.Common.{◌≡◌, ℕ, ◌+◌, List, [], slice_range, Some, None, ◌∙◌, ap}
+use Rattle.jl_base.specs.Results.{Reading, with_front}
 use Rattle.jl_base.specs.declared.kind.Kind.{Kind}
 use Rattle.jl_base.specs.declared.place.Fault.{Fault}
 use Rattle.jl_rows.specs.Written.{Row}
-use Rattle.jl_rows.specs.Files.{Placed, fault_at, frames, place_at, placed_on, rows, rows_on}
+use Rattle.jl_rows.specs.Files.{Placed, fault_at, frames, place_at, rows, rows_on}
 use Rattle.jl_rows.specs.Decoder.{Head, first_row_checked, head, head_checked, head_of}
 use Rattle.jl_rows.proofs.FileLaws.{file_next, file_done, file_broken, rows_next, rows_done, rows_broken}
 use Rattle.jl_rows.proofs.FrameLaws.{frames_at_end}

@@ -1,11 +1,10 @@
 -- Triple terms, and contents that are none.
-use Rattle.std.proofs.Common.{◌≡◌, ℕ, zero, suc, ◌+◌, ◌-◌, ◌≤◌, ◌<◌, List, Option, Some, None, Result, Ok, Err, refl, ap, sym, ◌∙◌, subst, arith}
+use Rattle.std.proofs.Common.{◌≡◌, ℕ, zero, suc, ◌+◌, ◌-◌, ◌≤◌, List, Some, None, Result, Ok, Err, refl, ap, sym, subst, arith}
 use Rattle.jl_base.specs.Results.{◌>>=◌}
 use Rattle.jl_base.specs.Spans.{text_of}
 use Rattle.jl_base.specs.declared.place.Span.{Span}
 use Rattle.jl_base.specs.declared.kind.Kind.{Kind}
 use Rattle.jl_base.specs.declared.kind.Kind.TheVariants.{TooDeep}
-use Rattle.jl_wire.specs.Fields.{Content}
 use Rattle.jl_wire.specs.Seen.{content_seen}
 use Rattle.jl_wire.specs.declared.field.Value.{Value}
 use Rattle.jl_wire.specs.declared.field.Value.TheVariants as values

@@ -1,5 +1,5 @@
 -- One known field of a message: what the groups say behind it.
-use Rattle.std.proofs.Common.{◌≡◌, ℕ, ◌<◌, List, length, Option, Some, None, is_some, Result, Ok, Err, true, false, refl, ap, sym, ◌∙◌, subst, slice_set, slice_index_or, get_or-set_same, get_or-set_other, ◌≢◌, ◌⊎◌, inl, inr, arith}
+use Rattle.std.proofs.Common.{◌≡◌, ℕ, ◌<◌, List, length, Option, Some, None, is_some, Ok, Err, true, false, refl, ap, sym, ◌∙◌, subst, slice_set, slice_index_or, get_or-set_same, get_or-set_other, inl, inr, arith}
 use Rattle.std.proofs.lemmas.List.{map-set, length-set}
 use Rattle.std.proofs.lemmas.Bool.{cases_eq}
 use Rattle.jl_base.specs.Results.{◌>>=◌, refuse_if}

@@ -1,10 +1,10 @@
 -- One field after another of a message that is read in place.
-use Rattle.std.proofs.Common.{◌≡◌, ℕ, ◌+◌, ◌≤◌, ◌<◌, List, [], ◌∷◌, length, slice_range, Option, Some, None, Result, Ok, Err, refl, ap, sym, ◌∙◌, subst, arith}
-use Rattle.jl_base.specs.Results.{◌>>=◌, Reading, with_front}
+use Rattle.std.proofs.Common.{◌≡◌, ℕ, ◌≤◌, List, length, slice_range, Some, Result, Ok, Err, ap, ◌∙◌, arith}
+use Rattle.jl_base.specs.Results.{◌>>=◌, Reading}
 use Rattle.jl_base.specs.declared.kind.Kind.{Kind}
-use Rattle.jl_wire.specs.Fields.{Content, Field, field, fields}
+use Rattle.jl_wire.specs.Fields.{Field}
 use Rattle.jl_wire.specs.declared.field.Field as code
-use Rattle.jl_wire.specs.Seen.{content_seen, field_seen, IsNextField, IsWithin}
+use Rattle.jl_wire.specs.Seen.{content_seen, IsNextField, IsWithin}
 use Rattle.jl_wire.proofs.FieldLaws.{fields_at_end, fields_at_fault, fields_at_next}
 use Rattle.jl_rows.specs.declared.message.Message.{Message}
 use Rattle.jl_rows.specs.Messages.{known_as}

@@ -1,11 +1,8 @@
-use Rattle.std.proofs.Common.{◌≡◌, ℕ, List, [], ◌∷◌, ◌++◌, refl, codes, Option, Some, None}
+use Rattle.std.proofs.Common.{◌≡◌, [], ◌∷◌, refl, Some, None}
 use Rattle.std.specs.Str.{is_utf8, chars}
 use lib.Utf8.{encode}
-use Rattle.jl_base.specs.Results.{Reading}
 use Rattle.jl_base.specs.Terms.{Value, Item}
-use Rattle.jl_base.specs.declared.kind.Kind.{Kind}
-use Rattle.jl_base.specs.declared.kind.Kind.TheVariants.{NoEntry, Truncated}
-use Rattle.jl_base.specs.declared.place.Fault.{Fault}
+use Rattle.jl_base.specs.declared.kind.Kind.TheVariants.{Truncated}
 use Rattle.jl_wire.specs.Varint.{varint, varint_within}
 use Rattle.jl_wire.specs.Fields.{field, fields_after}
 use Rattle.jl_rows.specs.Reading.{walk, read_on, iri, literal, empty, content_said, message}

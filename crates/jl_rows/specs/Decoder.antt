@@ -1,15 +1,15 @@
 -- The decoder: what each row states after the rows before it, or the first fault of its checks, in their order (Jelly RDF
 -- serialization, "Stream options", "Physical stream types" and the sections of the rows).
-use Rattle.std.specs.Prelude.{ℕ, zero, suc, ◌+◌, ◌^◌, Bool, true, false, ◌==◌, ◌&&◌, ◌||◌, not, List, [], ◌∷◌, ◌++◌, max, Option, Some, None, is_some, Result, Ok, Err, nat_lt, if◌then◌else◌}
+use Rattle.std.specs.Prelude.{ℕ, Bool, true, false, ◌==◌, ◌&&◌, ◌||◌, not, List, [], ◌∷◌, max, Option, Some, None, is_some, Result, Ok, Err, nat_lt, if◌then◌else◌}
 use Rattle.std.specs.Str.{bytes_eq}
-use Rattle.jl_base.specs.Results.{◌>>=◌, refuse_if, some_or, Reading, led, followed}
+use Rattle.jl_base.specs.Results.{◌>>=◌, refuse_if, some_or, Reading, followed}
 use Rattle.jl_base.specs.Terms.{Value, Item}
 use Rattle.jl_base.specs.declared.kind.Kind.{Kind}
 use Rattle.jl_base.specs.declared.kind.Kind.TheVariants.{NoOptions, BadOptions, TableTooLarge, OptionsDiffer, WrongRow, BadEntry, NoTerm, NoGraph, GraphOpen}
 use Rattle.jl_base.specs.declared.place.Place.{Place}
 use Rattle.jl_base.specs.declared.place.Fault.{Fault}
 use Rattle.jl_rows.specs.declared.row.Table.{Table}
-use Rattle.jl_rows.specs.Written.{Ids, Term, StreamOptions, Row}
+use Rattle.jl_rows.specs.Written.{StreamOptions, Row}
 use Rattle.jl_rows.specs.Files.{Placed, all_rows}
 use Rattle.jl_rows.specs.History.{History, entry_id, seen_in}
 use Rattle.jl_rows.specs.Values.{Position, value, value_in, iri_text, slots_of, last_term, open_graph, set_by, is_unset}

@@ -4,7 +4,7 @@ use Rattle.jl_rows.specs.declared.message.Shape.{Shape}
 use Rattle.jl_rows.specs.declared.message.Known.{Known}
 use Rattle.jl_rows.specs.declared.message.Sort.{Sort}
 use Rattle.jl_rows.specs.declared.row.Table.{Table}
-use Rattle.std.specs.Prelude.{ℕ, Bool, ◌==◌, List, [], ◌∷◌, ◌++◌, find, Option, Some, None, if◌then◌else◌}
+use Rattle.std.specs.Prelude.{ℕ, ◌==◌, List, [], ◌∷◌, ◌++◌, find, Option, Some, None, if◌then◌else◌}
 
 -- a known field: its number, what it holds, and its group
 abbrev pub known : ℕ → Shape → ℕ → Known

@@ -1,15 +1,15 @@
 -- Rows (Jelly RDF serialization, "RdfStreamRow"): one field of the ones below says what a row is.
-use Rattle.std.specs.Prelude.{ℕ, zero, suc, Bool, ◌==◌, List, [], ◌∷◌, Option, Some, None, is_some, Result, Ok, Err, if◌then◌else◌}
+use Rattle.std.specs.Prelude.{ℕ, List, [], ◌∷◌, Option, Some, None, is_some, Result, Ok, Err}
 use Rattle.jl_base.specs.Results.{◌>>=◌, refuse_if, some_or}
 use Rattle.jl_base.specs.declared.kind.Kind.{Kind}
 use Rattle.jl_base.specs.declared.kind.Kind.TheVariants.{WrongWire, Twice, EmptyRow}
 use Rattle.jl_wire.specs.Fields.{Content, Field, fields}
 use Rattle.jl_rows.specs.declared.row.Table.{Table}
-use Rattle.jl_rows.specs.Written.{Term, StreamOptions, Row}
+use Rattle.jl_rows.specs.Written.{StreamOptions, Row}
 use Rattle.jl_rows.specs.declared.message.Message.{Message}
 use Rattle.jl_rows.specs.declared.message.Sort.{Sort}
 use Rattle.jl_rows.specs.Messages.{sort_of}
-use Rattle.jl_rows.specs.Reading.{Parts, part, number_32, flag, text, term, ids, message, empty}
+use Rattle.jl_rows.specs.Reading.{part, number_32, flag, text, term, ids, message, empty}
 
 unfoldable pub options : List ℕ → Result StreamOptions Kind
 options bytes = message Message.Options bytes >>= λ ps. Ok (record {

@@ -1,10 +1,10 @@
 -- What the code's rows and parts stand for: their texts in place of where these lie.
-use Rattle.std.specs.Prelude.{◌≡◌, ℕ, ◌+◌, ◌<◌, ◌≤◌, List, [], map, length, slice_index_or, slice_range, Option, Some, None, is_some, Result, Ok, Err, false}
+use Rattle.std.specs.Prelude.{◌≡◌, ℕ, ◌<◌, ◌≤◌, List, [], map, length, slice_index_or, slice_range, Option, Some, None, is_some, Result, Ok, Err, false}
 use Rattle.std.specs.Option.{option_map}
 use Rattle.jl_base.specs.Spans.{text_of, IsInside}
 use Rattle.jl_base.specs.declared.place.Span.{Span}
 use Rattle.jl_base.specs.declared.kind.Kind.{Kind}
-use Rattle.jl_base.specs.Results.{◌>>=◌, refuse_if, Reading, with_front}
+use Rattle.jl_base.specs.Results.{◌>>=◌, refuse_if, with_front}
 use Rattle.jl_base.specs.declared.kind.Kind.TheVariants.{WrongWire, Twice}
 use Rattle.jl_wire.specs.Seen.{content_seen}
 use Rattle.jl_rows.specs.declared.message.Known.{Known}

@@ -1,8 +1,8 @@
 -- What the terms of a row mean after a history (Jelly RDF serialization, "RDF terms" and "Repeated terms"), or the first
 -- fault in them.
-use Rattle.std.specs.Prelude.{ℕ, zero, suc, ◌+◌, Bool, true, false, ◌==◌, ◌&&◌, List, [], ◌∷◌, ◌++◌, Option, Some, None, Result, Ok, Err, if◌then◌else◌}
+use Rattle.std.specs.Prelude.{ℕ, Bool, true, false, ◌==◌, ◌&&◌, List, [], ◌∷◌, ◌++◌, Option, None, Result, Ok, Err, if◌then◌else◌}
 use Rattle.std.specs.Char.{is_ascii_alphabetic, is_ascii_alphanumeric}
-use Rattle.jl_base.specs.Results.{◌>>=◌, refuse_if, some_or, answered}
+use Rattle.jl_base.specs.Results.{◌>>=◌, some_or, answered}
 use Rattle.jl_base.specs.Terms.{Tail, Value}
 use Rattle.jl_base.specs.declared.kind.Kind.{Kind}
 use Rattle.jl_base.specs.declared.kind.Kind.TheVariants.{NoEntry, NoTerm, BadLangtag}

@@ -7,3 +7,4 @@ pub mod Statements
 pub mod Looks
 pub mod Following
 pub mod StepLaw
+pub mod RunLaw

@@ -1,6 +1,7 @@
 pub mod States
 pub mod Steps
 pub mod Stands
+pub mod Running
 pub mod Extents
 pub mod KnownTerms
 pub mod Seen

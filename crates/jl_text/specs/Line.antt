@@ -22,6 +22,7 @@ is_raw_in_iri b = nat_lt 32 b && not (list_any (λ c. b == c) (codes "<>\"{}|^`\
 unfoldable pub iri_byte : ℕ → List ℕ
 iri_byte b = if is_raw_in_iri b then b ∷ [] else unicode_escape b
 
+-- what stands between `<` and `>`
 abbrev pub iri_escaped : List ℕ → List ℕ
 iri_escaped text = flat_map iri_byte text
 
@@ -39,6 +40,7 @@ string_byte b =
     else if nat_lt b 0x20 || (b == 0x7F) then unicode_escape b
     else b ∷ []
 
+-- what stands between the quotes
 abbrev pub string_escaped : List ℕ → List ℕ
 string_escaped text = flat_map string_byte text
 
@@ -55,12 +57,15 @@ unfoldable pub label_written : List ℕ → List ℕ
 label_written [] = codes "X"
 label_written (b ∷ label) = flat_map label_byte (b ∷ label)
 
+-- an IRI as a term
 abbrev pub iri_text : List ℕ → List ℕ
 iri_text iri = codes "<" ++ iri_escaped iri ++ codes ">"
 
+-- a simple literal as a term
 abbrev pub string_text : List ℕ → List ℕ
 string_text lex = codes "\"" ++ string_escaped lex ++ codes "\""
 
+-- the datatype of simple literals
 abbrev pub xsd_string : List ℕ
 xsd_string = codes "http://www.w3.org/2001/XMLSchema#string"
 
@@ -100,5 +105,6 @@ line (Triple s p o) = statement (term_text s ∷ term_text p ∷ term_text o ∷
 line (Quad s p o g) = statement (term_text s ∷ term_text p ∷ term_text o ∷ graph_texts g)
 line (Namespace name iri) = codes "# prefix " ++ string_escaped name ++ codes " " ++ iri_text iri ++ codes "\n"
 
+-- the lines of all items
 abbrev pub text : List Item → List ℕ
 text items = flat_map line items

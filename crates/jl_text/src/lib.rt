@@ -21,3 +21,6 @@ pub use term::{
     push_namespace, push_string, push_tag,
 };
 pub use wide::{push_clean_iri_at, push_datatype_at, push_label_at, push_string_at, push_tag_at};
+
+#[cfg(test)]
+mod tests;

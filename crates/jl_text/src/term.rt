@@ -1,4 +1,5 @@
-//! The parts of a line, appended straight from the bytes of a file.
+//! The parts of a line, appended straight from the bytes of a file. An error is want of memory, and then the text may end
+//! with some of what was to be appended.
 ghost use Rattle.std.specs.Prelude.{◌≡◌, ◌++◌, ◌↔◌, codes, OnOk, IsTrue};
 ghost use Rattle.jl_base.specs.Terms.{Namespace};
 ghost use Rattle.jl_text.specs.Line.{iri_escaped, iri_text, string_escaped, string_text, label_written, line, xsd_string};

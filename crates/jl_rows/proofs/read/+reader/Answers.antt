@@ -1,13 +1,13 @@
-use Rattle.std.proofs.Common.{sym, ap, ◌∙◌, ◌-◌, arith, refl, Ok, Result, Err}
+use Rattle.std.proofs.Common.{ap, ◌∙◌, ◌-◌, arith, Ok, Result}
 use Rattle.std.proofs.lemmas.Result.{err_from_is_err_and}
 use Rattle.jl_base.specs.Results.{◌>>=◌}
 use Rattle.jl_base.specs.Spans.{text_of}
 use Rattle.jl_base.specs.declared.kind.Kind.{Kind}
 use Rattle.jl_wire.specs.Seen.{content_seen}
 use Rattle.jl_rows.specs.Written.{Term}
-use Rattle.jl_rows.specs.Reading.{Part, Parts, content_said, read_on, nested}
+use Rattle.jl_rows.specs.Reading.{Part, Parts, content_said, nested}
 use Rattle.jl_rows.specs.Seen.{parts_seen}
-use Rattle.jl_rows.proofs.Walking.{read_end, read_fault, read_next, read_took, read_refused}
+use Rattle.jl_rows.proofs.Walking.{read_end, read_fault, read_took, read_refused}
 use Rattle.jl_rows.proofs.Taking.{took, kept, known_taken}
 use Rattle.jl_rows.proofs.Nesting.{not_nested, too_deep, one_deeper, read_anywhere}
 use Rattle.jl_rows.proofs.read.+reader.Goals as goal

@@ -1,9 +1,8 @@
-use Rattle.std.proofs.Common.{sym, ap, ◌∙◌, arith}
+use Rattle.std.proofs.Common.{◌∙◌, arith}
 use Rattle.std.proofs.lemmas.Result.{err_from_is_err_and}
-use Rattle.jl_base.specs.Results.{◌>>=◌}
-use Rattle.jl_rows.specs.Reading.{plain, read_on}
+use Rattle.jl_rows.specs.Reading.{plain}
 use Rattle.jl_rows.specs.Seen.{parts_seen}
-use Rattle.jl_rows.proofs.Walking.{read_end, read_fault, read_next, read_took, read_refused}
+use Rattle.jl_rows.proofs.Walking.{read_end, read_fault, read_took, read_refused}
 use Rattle.jl_rows.proofs.read.read_plain.Goals as goal
 
 pub returns-in_err-field-clause-exact : goal.returns-in_err-field-clause-exact

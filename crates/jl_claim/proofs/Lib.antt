@@ -1,0 +1,5 @@
+pub mod Allowed
+pub mod Counts
+pub mod Kept
+pub mod Lowered
+pub mod Sums

@@ -1,0 +1,31 @@
+-- A decoder runs its steps over the rows.
+use Rattle.std.specs.Prelude.{◌≡◌, ℕ, List, [], ◌∷◌, Option, Some, None, Result, Ok, Err}
+use Rattle.jl_base.specs.Results.{Reading, followed}
+use Rattle.jl_base.specs.Terms.{Item}
+use Rattle.jl_base.specs.declared.kind.Kind.{Kind}
+use Rattle.jl_base.specs.declared.place.Place.{Place}
+use Rattle.jl_base.specs.declared.place.Fault.{Fault}
+use Rattle.jl_rows.specs.Written.{StreamOptions}
+use Rattle.jl_rows.specs.Files.{Placed}
+use Rattle.jl_rows.specs.History.{History}
+use Rattle.jl_rows.specs.Decoder.{decoded_on}
+use Rattle.jl_state.specs.States.{State}
+use Rattle.jl_state.specs.Steps.{Stepped, step}
+use Rattle.jl_state.specs.Stands.{Stands}
+
+-- what a step states, and then what follows from the state behind it; a fault is at the row's place
+abbrev pub stepped : Place → Stepped → (State → Reading Item Fault) → Reading Item Fault
+stepped place (Ok next) rest = followed next.1 None (rest next.0)
+stepped place (Err kind) rest = record { items = []; fault = Some (record { place = place; kind = kind }) }
+
+-- from a state over the rows, up to the first fault of a row, or else the fault that ends them
+unfoldable pub run : StreamOptions → State → List Placed → Option Fault → Reading Item Fault
+run o s [] fault = record { items = []; fault = fault }
+run o s (r ∷ rs) fault = stepped r.place (step o r.row s) (λ t. run o t rs fault)
+
+abbrev pub run_on : StreamOptions → State → Reading Placed Fault → Reading Item Fault
+run_on o s R = run o s R.items R.fault
+
+-- From a state that stands for a history, a run gives what the decoder gives after that history.
+abbrev pub RunsDecode : Type 0
+RunsDecode = (o : StreamOptions) (s : State) (H : History) (R : Reading Placed Fault) → Stands o s H → run_on o s R ≡ decoded_on o H R

@@ -6,10 +6,9 @@
 
 ghost use Rattle.std.specs.Prelude.{◌≡◌, length, map, vec_len, IfOk};
 ghost use Rattle.jl_base.specs.FileSources.{name_of};
-ghost use Rattle.jl_top.specs.Jobs.{job_of, files_of};
 
 use jl_base::{ErrSink, FileShelf, FileSource, Text};
-use jl_top::{Gate, job, serve};
+use jl_top::{Gate, files, serve};
 use std::alloc::{AllocError, Global};
 use std::process::ExitCode;
 use std::rt::{Files, Runtime};
@@ -53,16 +52,6 @@ fn words(alloc: Global, arguments: env::Args) -> Result<Vec<Text>, AllocError> {
         words.push(Text::from_bytes(alloc, argument.as_bytes())?)?;
     }
     Ok(words)
-}
-
-// The words that name the files of the job, and none where there is no job.
-fn files(words: &[Text]) -> &[Text]
-    ensures { result.now ≡ files_of words.now (job_of words.now) }
-{
-    match job(words) {
-        Some(job) => &words[job.first..],
-        None => &[],
-    }
 }
 
 // A source for each file, in order.

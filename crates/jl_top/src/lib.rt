@@ -16,4 +16,7 @@ mod words;
 pub use command::{Command, Job};
 pub use gate::Gate;
 pub use top::serve;
-pub use words::job;
+pub use words::{files, job};
+
+#[cfg(test)]
+mod tests;

@@ -1,6 +1,6 @@
 //! The words of a command line.
 ghost use Rattle.std.specs.Prelude.{◌≡◌, ◌≤◌, length, IfSome};
-ghost use Rattle.jl_top.specs.Jobs.{job_of, is_file};
+ghost use Rattle.jl_top.specs.Jobs.{job_of, is_file, files_of};
 
 use crate::{Command, Job};
 use jl_base::Text;
@@ -32,4 +32,14 @@ pub fn job(words: &[Text]) -> Option<Job>
         out: None,
         first: 1,
     })
+}
+
+/// The words that name the files of the job, in order, and none where there is no job. Takes no memory.
+pub fn files(words: &[Text]) -> &[Text]
+    ensures { result.now ≡ files_of words.now (job_of words.now) }
+{
+    match job(words) {
+        Some(job) => &words[job.first..],
+        None => &[],
+    }
 }

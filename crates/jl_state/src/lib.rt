@@ -14,6 +14,8 @@ mod step;
 mod stop;
 mod tables;
 mod tag;
+#[cfg(test)]
+mod tests;
 
 pub use extent::Extent;
 pub use known::{Known, KnownTail, KnownThree};

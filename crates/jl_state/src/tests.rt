@@ -54,7 +54,8 @@ fn outcome<'a>(
     Ok((stated, None, prefix, name))
 }
 
-// Names a and b and a prefix p/, then p/a p/b p/a; c in place of a; the last terms again; and an object of the next name.
+// Names a and b and a prefix p/, then p/a p/b p/a; c in place of a; the last terms again; an object of the next name;
+// and a subject that is a triple term of p/c p/b p/c, with an object of the name after its last.
 const ROWS: &[u8] = b"\
     \x0A\x05\x4A\x03\x12\x01a\
     \x0A\x05\x4A\x03\x12\x01b\
@@ -62,17 +63,19 @@ const ROWS: &[u8] = b"\
     \x0A\x0C\x12\x0A\x0A\x02\x08\x01\x2A\0\x4A\x02\x10\x01\
     \x0A\x07\x4A\x05\x08\x01\x12\x01c\
     \x0A\x02\x12\0\
-    \x0A\x04\x12\x02\x4A\0";
+    \x0A\x04\x12\x02\x4A\0\
+    \x0A\x10\x12\x0E\x22\x0A\x0A\x02\x10\x01\x2A\0\x4A\x02\x10\x01\x4A\0";
 
 #[test]
 fn last_terms_keep_their_texts(rt: HostRuntime) -> Result<(), Fail> {
     let alloc = rt.alloc();
-    let cases: [(usize, u32, &[u8], &[u8]); 5] = [
+    let cases: [(usize, u32, &[u8], &[u8]); 6] = [
         (22, 0, b"", b""),
         (36, 1, b"p/", b"a"),
         (45, 1, b"p/", b"a"),
         (49, 2, b"p/", b"a"),
         (55, 3, b"p/", b"b"),
+        (73, 4, b"p/", b"b"),
     ];
     for (end, wanted, prefix, name) in cases {
         assert!(rt; end <= ROWS.len());

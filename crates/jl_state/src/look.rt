@@ -18,28 +18,29 @@ use std::alloc::Global;
 
 impl Lookup<'_> {
     /// A term that is no triple term, with the last ids behind it. It takes no memory.
-    pub fn leaf(&self, last: &mut LastIds, raw: RawTerm) -> Result<Known, Stop>
+    #[inline(always)]
+    pub fn leaf(&self, last: &mut LastIds, raw: &RawTerm) -> Result<Known, Stop>
         requires tables { AreTables self.now.bytes.now self.now.tables.now }
-        requires inside { rows.HasTerm self.now.bytes.now raw }
+        requires inside { rows.HasTerm self.now.bytes.now raw.now }
         requires short { length self.now.bytes.now ≤ 2 ^ 30 }
         requires small { last.old.name ≤ decoder.most_entries }
-        requires leaf { IsLeaf raw }
+        requires leaf { IsLeaf raw.now }
         ensures exact { Looks self.now.bytes.now
-            (steps.looked (slots_seen self.now.bytes.now self.now.tables.now) (ids_seen last.old) (rows.term_seen self.now.bytes.now raw)) last.new result }
+            (steps.looked (slots_seen self.now.bytes.now self.now.tables.now) (ids_seen last.old) (rows.term_seen self.now.bytes.now raw.now)) last.new result }
         ensures sound { IfOk result (HasKnown self.now.bytes.now) }
         ensures small { OnOk result (last.new.name ≤ decoder.most_entries) }
     {
         match raw {
             RawTerm::Iri(iri) => {
-                let ids = last.after(iri);
+                let ids = last.after(*iri);
                 let (prefix, name) = self.iri(ids)?;
                 *last = ids;
                 Ok(Known::Iri { prefix, name })
             }
-            RawTerm::Bnode(span) => Ok(Known::Bnode(Extent::of(self.bytes, span))),
+            RawTerm::Bnode(span) => Ok(Known::Bnode(Extent::of(self.bytes, *span))),
             RawTerm::Literal { lex, tail } => {
-                let tail = self.tail(tail)?;
-                let lex = Extent::of(self.bytes, lex);
+                let tail = self.tail(*tail)?;
+                let lex = Extent::of(self.bytes, *lex);
                 Ok(Known::Literal { lex, tail })
             }
             RawTerm::Default => Ok(Known::Default),
@@ -48,21 +49,22 @@ impl Lookup<'_> {
     }
 
     /// A term at a position: the row's own, or the last one there again. On a stop nothing is promised of both.
+    #[inline(always)]
     pub fn place(
         &self,
         alloc: Global,
         last: &mut LastIds,
         before: &mut Option<Known>,
-        raw: Option<RawTerm>,
+        raw: &Option<RawTerm>,
     ) -> Result<(), Stop>
         requires tables { AreTables self.now.bytes.now self.now.tables.now }
-        requires inside { rows.HasPosition self.now.bytes.now raw }
+        requires inside { rows.HasPosition self.now.bytes.now raw.now }
         requires before { HasMaybe self.now.bytes.now before.old }
         requires short { length self.now.bytes.now ≤ 2 ^ 30 }
         requires small { last.old.name ≤ decoder.most_entries }
         ensures exact { Places self.now.bytes.now
             (steps.placed (slots_seen self.now.bytes.now self.now.tables.now) (ids_seen last.old)
-            (maybe_value self.now.bytes.now before.old) (rows.position_seen self.now.bytes.now raw)) before.new last.new result }
+            (maybe_value self.now.bytes.now before.old) (rows.position_seen self.now.bytes.now raw.now)) before.new last.new result }
         ensures sound { OnOk result (HasMaybe self.now.bytes.now before.new) }
         ensures small { OnOk result (last.new.name ≤ decoder.most_entries) }
     {
@@ -72,8 +74,11 @@ impl Lookup<'_> {
             }
             return Ok(());
         };
-        let known = self.term(alloc, last, raw)?;
-        *before = Some(known);
+        if let RawTerm::Triple(_) = raw {
+            *before = Some(self.term(alloc, last, *raw)?);
+            return Ok(());
+        }
+        *before = Some(self.leaf(last, raw)?);
         Ok(())
     }
 
@@ -91,7 +96,7 @@ impl Lookup<'_> {
         ensures small { OnOk result (last.new.name ≤ decoder.most_entries) }
     {
         let RawTerm::Triple(span) = raw else {
-            return self.leaf(last, raw);
+            return self.leaf(last, &raw);
         };
         let terms = triple_term_at(self.bytes, span);
         let s = self.inner(alloc, last, terms.s)?;

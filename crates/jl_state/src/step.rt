@@ -90,9 +90,9 @@ impl State {
             bytes,
             tables: &self.tables,
         };
-        lookup.place(alloc, &mut self.last, &mut self.subject, t.s)?;
-        lookup.place(alloc, &mut self.last, &mut self.predicate, t.p)?;
-        lookup.place(alloc, &mut self.last, &mut self.object, t.o)?;
+        lookup.place(alloc, &mut self.last, &mut self.subject, &t.s)?;
+        lookup.place(alloc, &mut self.last, &mut self.predicate, &t.p)?;
+        lookup.place(alloc, &mut self.last, &mut self.object, &t.o)?;
         Ok(Stated::Statement)
     }
 
@@ -111,10 +111,10 @@ impl State {
             bytes,
             tables: &self.tables,
         };
-        lookup.place(alloc, &mut self.last, &mut self.subject, t.s)?;
-        lookup.place(alloc, &mut self.last, &mut self.predicate, t.p)?;
-        lookup.place(alloc, &mut self.last, &mut self.object, t.o)?;
-        lookup.place(alloc, &mut self.last, &mut self.graph, t.g)?;
+        lookup.place(alloc, &mut self.last, &mut self.subject, &t.s)?;
+        lookup.place(alloc, &mut self.last, &mut self.predicate, &t.p)?;
+        lookup.place(alloc, &mut self.last, &mut self.object, &t.o)?;
+        lookup.place(alloc, &mut self.last, &mut self.graph, &t.g)?;
         Ok(Stated::Statement)
     }
 

@@ -14,9 +14,12 @@ mod parts;
 mod read;
 mod read_row;
 mod row;
+mod short_fields;
 #[cfg(test)]
 mod tests;
 mod triple_terms;
+mod usual_rows;
+mod usual_terms;
 
 pub use first_row::{Head, head_at};
 pub use frame::next_frame;

@@ -1,2 +1,4 @@
 pub mod Appending
 pub mod Graphs
+pub mod GoingLemmas
+pub mod Endings

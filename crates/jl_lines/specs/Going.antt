@@ -1,15 +1,15 @@
 -- How far the lines of a file have come: what a decoder's steps have put into its buffer and given to the sink, against
 -- what is left of the file.
-use Rattle.std.specs.Prelude.{◌≡◌, ℕ, ◌≤◌, List, [], ◌++◌, Option, Some, None, Result, Ok, Err}
-use Rattle.jl_base.specs.Results.{Reading}
+use Rattle.std.specs.Prelude.{◌≡◌, ℕ, ◌+◌, List, [], ◌++◌, length, slice_range, Option, Some, None, Result, Ok, Err}
+use Rattle.jl_base.specs.Results.{Reading, joined}
 use Rattle.jl_base.specs.Terms.{Item}
 use Rattle.jl_base.specs.Causes.{Rose}
-use Rattle.jl_base.specs.Sinks.{Held, Adds}
-use Rattle.jl_base.specs.declared.kind.Kind.{Kind}
+use Rattle.jl_base.specs.Sinks.{Held, Adds, AddsFront}
 use Rattle.jl_base.specs.declared.place.Fault.{Fault}
 use Rattle.jl_text.specs.Line.{text}
 use Rattle.jl_rows.specs.Written.{StreamOptions}
-use Rattle.jl_rows.specs.Files.{Placed}
+use Rattle.jl_rows.specs.Files.{Placed, placed_on, rows, rows_on, frames}
+use Rattle.jl_lines.specs.declared.frame.Frame.{Frame}
 use Rattle.jl_state.specs.declared.stop.Stop.{Stop}
 use Rattle.jl_state.specs.declared.stop.Stop.TheVariants as stops
 use Rattle.jl_state.specs.States.{State}
@@ -53,3 +53,42 @@ pub record Breaks (o : StreamOptions) (s : State) (buffer : List ℕ) (R : Readi
 abbrev pub Comes : StreamOptions → State → List ℕ → Reading Placed Fault → State → List ℕ → Reading Placed Fault → Option Held → Option Held → ℕ → ℕ → Result (Unit {0}) Broken → Type 0
 Comes o s buffer R s' buffer' R' held held' faults faults' (Ok _) = Goes o s buffer R s' buffer' R' held held'
 Comes o s buffer R s' buffer' R' held held' faults faults' (Err why) = Breaks o s buffer R buffer' held held' faults faults' why
+
+-- a call that failed
+abbrev pub fails : Broken → Result (Unit {0}) Broken
+fails why = Err why
+
+-- The buffer, or a front of it, was given to the sink; or the sink failed behind a front of it.
+abbrev pub Gives : List ℕ → List ℕ → Option Held → Option Held → ℕ → ℕ → Result (Unit {0}) Broken → Type 0
+Gives buffer buffer' held held' faults faults' (Ok _) = (given : List ℕ) × (buffer ≡ given ++ buffer') × Adds held held' given
+Gives buffer buffer' held held' faults faults' (Err why) = (why ≡ broken.WriteFault) × Rose faults faults' × AddsFront held held' buffer (fails why)
+
+-- the rows of the frames behind the one of a number that ends at a place
+abbrev pub behind : List ℕ → ℕ → ℕ → Reading Placed Fault
+behind bytes number end = rows_on (number + 1) (frames (slice_range bytes end (length bytes)))
+
+-- the rows of a frame from a place in it on, behind so many rows, and then those of the frames behind it
+abbrev pub rest_of : List ℕ → Frame → ℕ → ℕ → Reading Placed Fault
+rest_of bytes frame before at = joined (placed_on frame.number before (rows (slice_range bytes at frame.end))) (behind bytes frame.number frame.end)
+
+-- one row on, or to the end of the frame, or broken off
+abbrev pub ComesOn : List ℕ → StreamOptions → Frame → ℕ → Lines → ℕ → Lines → Option Held → Option Held → ℕ → ℕ → Result (Option ℕ) Broken → Type 0
+ComesOn bytes o frame before old at new held held' faults faults' (Ok (Some next)) =
+    Goes o (state_seen bytes old.state) old.buffer.items (rest_of bytes frame before at) (state_seen bytes new.state) new.buffer.items (rest_of bytes frame (before + 1) next) held held'
+ComesOn bytes o frame before old at new held held' faults faults' (Ok None) =
+    Goes o (state_seen bytes old.state) old.buffer.items (rest_of bytes frame before at) (state_seen bytes new.state) new.buffer.items (behind bytes frame.number frame.end) held held'
+ComesOn bytes o frame before old at new held held' faults faults' (Err why) =
+    Breaks o (state_seen bytes old.state) old.buffer.items (rest_of bytes frame before at) new.buffer.items held held' faults faults' why
+
+-- the rows of the frames from the one of a number on, which begins at a place
+abbrev pub from_frame : List ℕ → ℕ → ℕ → Reading Placed Fault
+from_frame bytes number at = rows_on number (frames (slice_range bytes at (length bytes)))
+
+-- one frame on, or to the end of the file, or broken off
+abbrev pub ComesToFrame : List ℕ → StreamOptions → ℕ → Lines → ℕ → Lines → Option Held → Option Held → ℕ → ℕ → Result (Option ℕ) Broken → Type 0
+ComesToFrame bytes o number old at new held held' faults faults' (Ok (Some next)) =
+    Goes o (state_seen bytes old.state) old.buffer.items (from_frame bytes number at) (state_seen bytes new.state) new.buffer.items (from_frame bytes (number + 1) next) held held'
+ComesToFrame bytes o number old at new held held' faults faults' (Ok None) =
+    Goes o (state_seen bytes old.state) old.buffer.items (from_frame bytes number at) (state_seen bytes new.state) new.buffer.items (record { items = []; fault = None }) held held'
+ComesToFrame bytes o number old at new held held' faults faults' (Err why) =
+    Breaks o (state_seen bytes old.state) old.buffer.items (from_frame bytes number at) new.buffer.items held held' faults faults' why

@@ -4,9 +4,13 @@
 //! before the first fault where there is one. It stands on jl_state, jl_rows and jl_text.
 #![tactic(auto)]
 
+mod file;
+mod frame;
 mod known;
 mod lines;
 mod statement;
+#[cfg(test)]
+mod tests;
 mod write;
 
 pub use write::{Ended, write_lines};

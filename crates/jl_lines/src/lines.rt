@@ -3,14 +3,17 @@ ghost use Rattle.std.specs.Prelude.{◌≡◌, ◌+◌, ◌≤◌, ◌^◌, OnOk
 ghost use Rattle.jl_rows.specs.Seen.{options_seen, row_seen, HasRow};
 ghost use Rattle.jl_state.specs.Steps.{step};
 ghost use Rattle.jl_state.specs.Lawful.{state_seen, IsLawful};
-ghost use Rattle.jl_lines.specs.Going.{TakesRow};
+ghost use Rattle.jl_lines.specs.Going.{Gives, TakesRow};
 
 use crate::statement::push_statement;
-use jl_base::Fault;
+use jl_base::{Fault, Sink, write_all};
 use jl_rows::Row;
 use jl_state::{State, Stated, Stop};
 use jl_text::push_namespace;
 use std::alloc::Global;
+
+/// How many bytes of lines are handed to the sink at once, or somewhat more.
+const LONG: usize = 1 << 17;
 
 /// A state, and the lines that were made but not given yet.
 #[derive(Debug, Drop)]
@@ -30,7 +33,7 @@ pub enum Broken {
 
 impl Lines {
     // One row's lines.
-    fn row(&mut self, alloc: Global, bytes: &[u8], row: &Row) -> Result<(), Stop>
+    pub(crate) fn row(&mut self, alloc: Global, bytes: &[u8], row: &Row) -> Result<(), Stop>
         requires lawful { IsLawful bytes.now self.old.state }
         requires inside { HasRow bytes.now row.now }
         requires short { length bytes.now ≤ 2 ^ 30 }
@@ -43,9 +46,30 @@ impl Lines {
             Stated::Statement => push_statement(&mut self.buffer, bytes, &self.state)?,
             Stated::Namespace { name, prefix, iri } => {
                 let at = name.at as usize;
-                push_namespace(&mut self.buffer, &bytes[at..at + name.len as usize], prefix.text(bytes), iri.text(bytes))?;
+                push_namespace(
+                    &mut self.buffer,
+                    &bytes[at..at + name.len as usize],
+                    prefix.text(bytes),
+                    iri.text(bytes),
+                )?;
             }
         }
+        Ok(())
+    }
+
+    // Gives the sink the buffer once it is long.
+    pub(crate) fn give<K: Sink>(&mut self, out: &mut K) -> Result<(), Broken>
+        ensures gives { Gives self.old.buffer.items self.new.buffer.items (K.held out.old) (K.held out.new) (K.faults out.old) (K.faults out.new) result }
+        ensures later { K.faults out.old ≤ K.faults out.new }
+        ensures state { self.new.state ≡ self.old.state }
+    {
+        if self.buffer.len() < LONG {
+            return Ok(());
+        }
+        if write_all(out, &self.buffer).is_err() {
+            return Err(Broken::WriteFault);
+        }
+        self.buffer.clear();
         Ok(())
     }
 }

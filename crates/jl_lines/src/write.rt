@@ -1,9 +1,15 @@
 //! The lines of a whole file.
-ghost use Rattle.std.specs.Prelude.{◌≤◌, ◌^◌, length};
-ghost use Rattle.jl_rows.specs.Decoder.{decode};
-ghost use Rattle.jl_lines.specs.Writes.{WritesLines};
+ghost use Rattle.std.specs.Prelude.{◌≤◌, ◌^◌, [], length};
+ghost use Rattle.jl_rows.specs.Decoder.{decode, decoded_on};
+ghost use Rattle.jl_rows.specs.Files.{all_rows};
+ghost use Rattle.jl_rows.specs.Heads.{ArePassed};
+ghost use Rattle.jl_rows.specs.Seen.{options_seen};
+ghost use Rattle.jl_lines.specs.Writes.{Ends, WritesLines};
 
-use jl_base::{Fault, Sink, Space};
+use crate::lines::{Broken, Lines};
+use jl_base::{Fault, Sink, Space, write_all};
+use jl_rows::{Head, Options, head_at};
+use jl_state::State;
 use std::alloc::Global;
 
 /// How the writing of a file's lines ended.
@@ -25,5 +31,46 @@ pub fn write_lines<K: Sink>(alloc: Global, space: &Space, out: &mut K) -> Ended
     requires { length space.now ≤ 2 ^ 30 }
     ensures { WritesLines (decode space.now) (K.held out.old) (K.held out.new) (K.faults out.old) (K.faults out.new) result }
 {
-    Ended::NoMemory
+    let bytes = space.bytes();
+    match head_at(bytes) {
+        Head::Empty => Ended::Whole,
+        Head::Bad(fault) => Ended::Malformed(fault),
+        Head::First(options, _) => write_under(alloc, bytes, &options, out),
+    }
+}
+
+// The same, under options that passed the checks of a first row.
+fn write_under<K: Sink>(alloc: Global, bytes: &[u8], options: &Options, out: &mut K) -> Ended
+    requires short { length bytes.now ≤ 2 ^ 30 }
+    requires passed { ArePassed bytes.now options.now }
+    ensures { WritesLines (decoded_on (options_seen bytes.now options.now) [] (all_rows bytes.now)) (K.held out.old) (K.held out.new) (K.faults out.old) (K.faults out.new) result }
+{
+    let Ok(state) = State::opening(alloc, bytes, options) else {
+        return Ended::NoMemory;
+    };
+    let mut lines = Lines {
+        state,
+        buffer: Vec::new(alloc),
+    };
+    let came = lines.file(alloc, bytes, out);
+    lines.end(came, out)
+}
+
+impl Lines {
+    // Gives the sink what is left of the buffer, where the lines in it are to be given.
+    fn end<K: Sink>(&self, came: Result<(), Broken>, out: &mut K) -> Ended
+        ensures ends { Ends self.now.buffer.items came (K.held out.old) (K.held out.new) (K.faults out.old) (K.faults out.new) result }
+        ensures later { K.faults out.old ≤ K.faults out.new }
+    {
+        let ended = match came {
+            Ok(()) => Ended::Whole,
+            Err(Broken::Malformed(fault)) => Ended::Malformed(fault),
+            Err(Broken::WriteFault) => return Ended::WriteFault,
+            Err(Broken::NoMemory) => return Ended::NoMemory,
+        };
+        match write_all(out, &self.buffer) {
+            Ok(()) => ended,
+            Err(_) => Ended::WriteFault,
+        }
+    }
 }

@@ -1,11 +1,15 @@
 -- One field after another of a row, and of a frame, that are read in place.
-use Rattle.std.proofs.Common.{◌≡◌, ℕ, ◌≤◌, List, [], length, slice_range, Option, Some, None, Result, Ok, Err, ap, ◌∙◌, arith}
+use Rattle.std.proofs.Common.{◌≡◌, ℕ, ◌+◌, nat_eq, Bool, true, false, if◌then◌else◌, refl, ◌≤◌, List, [], length, slice_range, Option, Some, None, Result, Ok, Err, ap, ◌∙◌, arith}
 use Rattle.jl_base.specs.Results.{◌>>=◌, Reading, led}
+use Rattle.jl_base.specs.Spans.{text_of}
 use Rattle.jl_base.specs.declared.kind.Kind.{Kind}
-use Rattle.jl_wire.specs.Fields.{Field}
+use Rattle.jl_base.specs.declared.kind.Kind.TheVariants.{WrongWire}
+use Rattle.jl_wire.specs.Fields.{Content, Field}
+use Rattle.jl_wire.specs.declared.field.Value.{Value}
+use Rattle.jl_wire.specs.declared.field.Value.TheVariants as values
 use Rattle.jl_wire.specs.declared.field.Field as code
-use Rattle.jl_wire.specs.Seen.{content_seen, IsNextField, IsWithin}
-use Rattle.jl_wire.proofs.FieldLaws.{fields_at_end, fields_at_fault, fields_at_next}
+use Rattle.jl_wire.specs.Seen.{content_seen, field_seen, IsNextField, IsWithin}
+use Rattle.jl_wire.proofs.FieldLaws.{field_size, fields_at_end, fields_at_fault, fields_at_next}
 use Rattle.jl_rows.specs.Written.{Row}
 use Rattle.jl_rows.specs.Messages.{sort_of}
 use Rattle.jl_rows.specs.Rows.{row_taken_if_known, row_walk, row_on}
@@ -35,7 +39,26 @@ module _ (bytes : List ℕ) (at end : ℕ) (before : Option Row) where
   row_refused f h within k e =
       row_next f h (omega (arith, within.after)) within.before ∙ ap (λ (r : Result (Option Row) Kind). r >>= λ (x : Option Row). row_on x (slice_range bytes f.next end)) e
 
+no_row : (first last : Bool) (r : Row) → ◌≡◌ {A = Result (Option Row) Kind} (if first then Err WrongWire else if last then Err WrongWire else Ok None) (Ok (Some r)) → ⊥
+no_row true last r e = cc
+no_row false true r e = cc
+no_row false false r e = cc
+
+-- a field that says a row is bytes
+some_row : (bytes : List ℕ) (number : ℕ) (value : Value) (r : Row) → said_in_frame number (content_seen bytes value) ≡ Ok (Some r) → (text : List ℕ) × (content_seen bytes value ≡ Content.Bytes text)
+some_row bytes number (values.Bytes span) r e = (text_of bytes span, refl)
+some_row bytes number (values.Varint n) r e = absurd (no_row (nat_eq number 1) (nat_eq number 15) r e)
+some_row bytes number (values.Fixed64 n) r e = absurd (no_row (nat_eq number 1) (nat_eq number 15) r e)
+some_row bytes number (values.Fixed32 n) r e = absurd (no_row (nat_eq number 1) (nat_eq number 15) r e)
+
 module _ (bytes : List ℕ) (at end : ℕ) where
+  -- a row takes at least two bytes: its tag and its length
+  pub row_is_wide : (f : code.Field) → IsNextField bytes at end (Ok (Some f)) → (r : Row) → said_in_frame f.number (content_seen bytes f.value) ≡ Ok (Some r) → at + 2 ≤ f.next
+  row_is_wide f h r e =
+      let text = some_row bytes f.number f.value r e in
+      let sized = field_size (slice_range bytes at end) (field_seen bytes at f) h.1 in
+      omega (arith, sized.shorter text.0 text.1)
+
   pub rows_end : at ≡ end → rows (slice_range bytes at end) ≡ record { items = []; fault = None }
   unfolding rows rows_among
   rows_end e = ap (λ (fs : Reading Field Kind). rows_among fs.items fs.fault) (fields_at_end bytes at end e)

@@ -52,6 +52,7 @@ pub fn head_at(bytes: &[u8]) -> Head
     }
 }
 
+// A fault at a row of a frame, or at row 0, which is the frame itself.
 fn bad(frame: u64, row: u32, kind: Kind) -> Head
     ensures { result ≡ Head.Bad (fault_at frame row kind) }
 {

@@ -20,6 +20,7 @@ pub fn next_row(space: &Space, frame: Span, at: u64) -> Result<Option<(Row, u64)
     requires end { at ≤ frame.at + frame.len }
     ensures exact { IsNextRow space.now at (frame.at + frame.len) result }
     ensures within { IfOk result (λ found. IfSome found (IsRowWithin space.now at (frame.at + frame.len))) }
+    ensures wide { IfOk result (λ found. IfSome found (λ r. at + 2 ≤ r.1)) }
 {
     let bytes = space.bytes();
     let end = frame.at as usize + frame.len as usize;

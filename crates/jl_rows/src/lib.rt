@@ -1,8 +1,8 @@
 //! Frames, messages and rows of a Jelly file, read in place: what a row says, by ids and by where its texts lie.
 //!
-//! It promises that the next row, the terms of a triple term and the head of a file are exactly the definitions, with
-//! the first fault in the order of the bytes, without memory. Its specs are the definitions of the whole format: of
-//! messages, rows, histories and the decoder. It stands on jl_wire and jl_base.
+//! It promises that the next frame, the next row, the terms of a triple term and the head of a file are exactly the
+//! definitions, with the first fault in the order of the bytes, without memory. Its specs are the definitions of the
+//! whole format: of messages, rows, histories and the decoder. It stands on jl_wire and jl_base.
 #![tactic(auto)]
 
 mod first_row;

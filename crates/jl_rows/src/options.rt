@@ -1,3 +1,4 @@
+//! Stream options.
 ghost use Rattle.std.specs.Prelude.{◌≡◌};
 ghost use Rattle.std.specs.Str.{bytes_eq};
 ghost use Rattle.jl_base.specs.Spans.{IsInside, text_of};

@@ -219,6 +219,7 @@ pub fn next_row_at(bytes: &[u8], at: usize, end: usize) -> Result<Option<(Row, u
     requires short { end - at < 2 ^ 32 }
     ensures exact { IsNextRow bytes.now at end result }
     ensures within { IfOk result (λ found. IfSome found (IsRowWithin bytes.now at end)) }
+    ensures wide { IfOk result (λ found. IfSome found (λ r. at + 2 ≤ r.1)) }
 {
     let mut place = at;
     'fields: while let Some(field) = next_field(bytes, place, end)? {

@@ -1,7 +1,7 @@
 use Rattle.std.proofs.Common.{◌∙◌, arith, Some, None}
 use Rattle.std.proofs.lemmas.Result.{err_from_is_err_and}
 use Rattle.jl_rows.specs.Seen.{row_seen}
-use Rattle.jl_rows.proofs.RowWalking.{rows_end, rows_fault, rows_took, rows_refused}
+use Rattle.jl_rows.proofs.RowWalking.{row_is_wide, rows_end, rows_fault, rows_took, rows_refused}
 use Rattle.jl_rows.proofs.read_row.next_row_at.Goals as goal
 
 pub returns-in_err-field-clause-exact : goal.returns-in_err-field-clause-exact
@@ -22,6 +22,13 @@ returns-in-Some-2-clause-exact c =
     let within = rw c.in-Some.is at c.in_ok-field.ensures.within in
     let found = rw c.in-Some-2.is at c.in_ok-row.ensures.exact in
     c.fields.invariant.rest ∙ rows_took c.args.bytes.now c.fields.place c.args.end c.in-Some.field said within (Some (row_seen c.args.bytes.now c.in-Some-2.row)) found
+
+pub returns-in-Some-2-clause-wide : goal.returns-in-Some-2-clause-wide
+returns-in-Some-2-clause-wide c =
+    let said = rw c.in-Some.is at c.in_ok-field.ensures.exact in
+    let found = rw c.in-Some-2.is at c.in_ok-row.ensures.exact in
+    let wide = row_is_wide c.args.bytes.now c.fields.place c.args.end c.in-Some.field said (row_seen c.args.bytes.now c.in-Some-2.row) found in
+    omega (arith, wide, c.fields.invariant.after)
 
 pub fields-preserved : goal.fields-preserved
 fields-preserved c =

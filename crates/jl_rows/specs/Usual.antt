@@ -1,6 +1,6 @@
 -- What the parts of a reader of rows of usual shape answer. A place that is answered lies behind bytes which the reader
 -- looked at; what it says holds of any range that reaches so far.
-use Rattle.std.specs.Prelude.{◌≡◌, ℕ, ◌+◌, ◌-◌, ◌*◌, ◌^◌, ◌<◌, ◌≤◌, false, IfSome, List, length, slice_index, slice_range, slice_set, Option, Some, None, is_some, Result, Ok}
+use Rattle.std.specs.Prelude.{◌≡◌, ℕ, ◌+◌, ◌-◌, ◌*◌, ◌^◌, ◌<◌, ◌≤◌, false, IfSome, List, length, slice_index, slice_range, slice_set, Option, Some, None, is_some, Result, Ok, Err}
 use Rattle.std.specs.Option.{option_map}
 use Rattle.jl_base.specs.Spans.{text_of}
 use Rattle.jl_base.specs.declared.kind.Kind.{Kind}
@@ -94,3 +94,9 @@ pub record IsKind (bytes : List ℕ) (tag : ℕ) (text : List ℕ) (row : Row) :
   pub tag_is : tag ≡ number * 8 + 2
   pub sort_is : sort_of number ≡ Some sort
   pub said : IsRowOf bytes (said_by sort text) row
+
+-- a row that was put in its place, and the place behind it
+abbrev pub written_row : Row → Result (Option ℕ) Kind → Result (Option (Row × ℕ)) Kind
+written_row row (Ok (Some next)) = Ok (Some (row, next))
+written_row row (Ok None) = Ok None
+written_row row (Err k) = Err k

@@ -7,6 +7,7 @@
 
 mod first_row;
 mod frame;
+mod frame_rows;
 mod in_space;
 mod message;
 mod options;
@@ -23,9 +24,9 @@ mod usual_terms;
 
 pub use first_row::{Head, head_at};
 pub use frame::next_frame;
+pub use frame_rows::{next_row_at, next_row_into};
 pub use in_space::{head, next_row, triple_term};
 pub use message::{Known, Message, Shape};
 pub use options::{Options, Physical};
-pub use read_row::next_row_at;
 pub use row::{RawIri, RawQuad, RawTail, RawTerm, RawTriple, Row, Table};
 pub use triple_terms::{triple_term_at, triple_terms_again};

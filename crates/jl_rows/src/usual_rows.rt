@@ -115,7 +115,7 @@ fn message(bytes: &[u8], span: Span, row: &mut Row) -> bool
 }
 
 /// The row in front, where it is of usual shape, is written; the answer is the place behind it.
-#[inline]
+#[inline(never)]
 pub fn usual_row(bytes: &[u8], at: usize, end: usize, row: &mut Row) -> Option<usize>
     requires start { at ≤ end }
     requires inside { end ≤ length bytes.now }

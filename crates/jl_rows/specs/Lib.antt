@@ -8,3 +8,4 @@ pub mod History
 pub mod Values
 pub mod Decoder
 pub mod Heads
+pub mod Usual

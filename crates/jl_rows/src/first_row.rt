@@ -8,7 +8,7 @@ ghost use Rattle.jl_rows.specs.Seen.{HasRow, options_seen, row_seen};
 
 use crate::Options;
 use crate::frame::next_frame;
-use crate::read_row::next_row_at;
+use crate::frame_rows::next_row_at;
 use crate::row::Row;
 use jl_base::{Fault, Kind, Place};
 

@@ -7,7 +7,7 @@ ghost use Rattle.jl_rows.specs.Heads.{HasHead, head_seen};
 ghost use Rattle.jl_rows.specs.Seen.{HasTriple, IsNextRow, IsRowWithin, nested_at, nested_seen};
 
 use crate::first_row::{Head, head_at};
-use crate::read_row::next_row_at;
+use crate::frame_rows::next_row_at;
 use crate::row::{RawTriple, Row};
 use crate::triple_terms::triple_term_at;
 use jl_base::{Kind, Space, Span};

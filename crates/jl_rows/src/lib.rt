@@ -7,6 +7,7 @@
 
 mod first_row;
 mod frame;
+mod frame_rows;
 mod in_space;
 mod message;
 mod options;
@@ -14,15 +15,18 @@ mod parts;
 mod read;
 mod read_row;
 mod row;
+mod short_fields;
 #[cfg(test)]
 mod tests;
 mod triple_terms;
+mod usual_rows;
+mod usual_terms;
 
 pub use first_row::{Head, head_at};
 pub use frame::next_frame;
+pub use frame_rows::{next_row_at, next_row_into};
 pub use in_space::{head, next_row, triple_term};
 pub use message::{Known, Message, Shape};
 pub use options::{Options, Physical};
-pub use read_row::next_row_at;
 pub use row::{RawIri, RawQuad, RawTail, RawTerm, RawTriple, Row, Table};
 pub use triple_terms::{triple_term_at, triple_terms_again};

@@ -212,8 +212,8 @@ fn said_in_frame(bytes: &[u8], field: Field) -> Result<Option<Row>, Kind>
     Ok(Some(row(bytes, span)?))
 }
 
-/// The next row of a frame that ends at `end`, and the place behind it.
-pub fn next_row_at(bytes: &[u8], at: usize, end: usize) -> Result<Option<(Row, usize)>, Kind>
+/// The next row of a frame that ends at `end`, whatever its shape, and the place behind it.
+pub fn any_row_at(bytes: &[u8], at: usize, end: usize) -> Result<Option<(Row, usize)>, Kind>
     requires start { at ≤ end }
     requires inside { end ≤ length bytes.now }
     requires short { end - at < 2 ^ 32 }

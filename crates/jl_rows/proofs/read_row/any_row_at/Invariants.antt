@@ -1,6 +1,6 @@
 use Rattle.std.proofs.Common.{◌≡◌, ◌-◌, ◌≤◌, slice_range}
 use Rattle.jl_rows.specs.Files.{rows}
-use Rattle.jl_rows.proofs.read_row.next_row_at.Given as goal
+use Rattle.jl_rows.proofs.read_row.any_row_at.Given as goal
 
 -- what is left has the rows of all
 abbrev pub invariant-fields : goal.invariant-fields

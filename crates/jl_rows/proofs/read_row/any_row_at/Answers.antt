@@ -2,7 +2,7 @@ use Rattle.std.proofs.Common.{◌∙◌, arith, Some, None}
 use Rattle.std.proofs.lemmas.Result.{err_from_is_err_and}
 use Rattle.jl_rows.specs.Seen.{row_seen}
 use Rattle.jl_rows.proofs.RowWalking.{row_is_wide, rows_end, rows_fault, rows_took, rows_refused}
-use Rattle.jl_rows.proofs.read_row.next_row_at.Goals as goal
+use Rattle.jl_rows.proofs.read_row.any_row_at.Goals as goal
 
 pub returns-in_err-field-clause-exact : goal.returns-in_err-field-clause-exact
 returns-in_err-field-clause-exact c =

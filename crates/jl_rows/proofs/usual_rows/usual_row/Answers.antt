@@ -1,0 +1,7 @@
+use Rattle.jl_rows.proofs.UsualRows.{row_in_front}
+use Rattle.jl_rows.proofs.usual_rows.usual_row.Goals as goal
+
+pub returns-then-message-clause-exact : goal.returns-then-message-clause-exact
+returns-then-message-clause-exact c =
+    let said = c.message.ensures c.if-message.true in
+    row_in_front c.args.bytes.now c.args.at c.args.end c.behind.result c.in_ok-span.span c.message.new.row c.in_ok-span.ensures c.if-bytes-at-ne10.false c.behind.ensures said.0

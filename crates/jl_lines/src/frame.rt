@@ -7,7 +7,7 @@ ghost use Rattle.jl_lines.specs.Going.{Comes, ComesOn, behind, rest_of};
 
 use crate::lines::{Broken, Lines};
 use jl_base::{Fault, Kind, Place, Sink};
-use jl_rows::next_row_at;
+use jl_rows::{Row, next_row_into};
 use jl_state::Stop;
 use std::alloc::Global;
 
@@ -42,6 +42,7 @@ impl Lines {
         at: usize,
         frame: Frame,
         before: u32,
+        row: &mut Row,
         out: &mut K,
     ) -> Result<Option<usize>, Broken>
         requires lawful { IsLawful bytes.now self.old.state }
@@ -55,12 +56,12 @@ impl Lines {
         ensures lawful { OnOk result (IsLawful bytes.now self.new.state) }
         ensures options { self.new.state.options ≡ self.old.state.options }
     {
-        let (row, next) = match next_row_at(bytes, at, frame.end) {
-            Ok(Some(found)) => found,
+        let next = match next_row_into(bytes, at, frame.end, row) {
+            Ok(Some(next)) => next,
             Ok(None) => return Ok(None),
             Err(kind) => return Err(malformed(frame, before, kind)),
         };
-        match self.row(alloc, bytes, &row) {
+        match self.row(alloc, bytes, row) {
             Ok(()) => {}
             Err(Stop::Fault(kind)) => return Err(malformed(frame, before, kind)),
             Err(Stop::NoMemory) => return Err(Broken::NoMemory),
@@ -91,7 +92,10 @@ impl Lines {
     {
         let mut place = at;
         let mut before = 0;
-        'by_row: while let Some(next) = self.next(alloc, bytes, place, frame, before, out)? {
+        let mut row = Row::GraphEnd;
+        'by_row: while let Some(next) = self.next(
+            alloc, bytes, place, frame, before, &mut row, out,
+        )? {
             place = next;
             before += 1;
         }

@@ -29,8 +29,8 @@ returns-in-Err-Fault-clause-comes g c =
     let behind = rows_on (c.args.frame.number + 1) (frames (slice_range c.args.bytes.now c.args.frame.end (length c.args.bytes.now))) in
     rw c.malformed-in-Err-Fault.ensures
     (breaks_row (options_seen c.args.bytes.now c.args.self.now.state.options) (state_seen c.args.bytes.now c.args.self.now.state) c.args.self.now.buffer.items (rest_of c.args.bytes.now c.args.frame c.args.before c.args.at)
-    (row_at c.args.frame.number c.args.before (row_seen c.args.bytes.now c.in-Ok-Some.found.0)) (rest_of c.args.bytes.now c.args.frame (c.args.before + 1) c.in-Ok-Some.found.1) c.in-Err-Fault.kind _ _ _ _
-    (rows_next c.args.frame.number c.args.before (slice_range c.args.bytes.now c.args.at c.args.frame.end) behind (slice_range c.args.bytes.now c.in-Ok-Some.found.1 c.args.frame.end) (row_seen c.args.bytes.now c.in-Ok-Some.found.0) said)
+    (row_at c.args.frame.number c.args.before (row_seen c.args.bytes.now c.next_row_into.new.row)) (rest_of c.args.bytes.now c.args.frame (c.args.before + 1) c.in-Ok-Some.next) c.in-Err-Fault.kind _ _ _ _
+    (rows_next c.args.frame.number c.args.before (slice_range c.args.bytes.now c.args.at c.args.frame.end) behind (slice_range c.args.bytes.now c.in-Ok-Some.next c.args.frame.end) (row_seen c.args.bytes.now c.next_row_into.new.row) said)
     stopped.0 stopped.1)
 
 pub returns-in_err-give-clause-comes : goal.returns-in_err-give-clause-comes
@@ -42,9 +42,9 @@ returns-in_err-give-clause-comes g c =
     let s = state_seen c.args.bytes.now c.args.self.now.state in
     let b = c.args.self.now.buffer.items in
     let R = rest_of c.args.bytes.now c.args.frame c.args.before c.args.at in
-    let R' = rest_of c.args.bytes.now c.args.frame (c.args.before + 1) c.in-Ok-Some.found.1 in
-    let went = goes_row o s b R (row_at c.args.frame.number c.args.before (row_seen c.args.bytes.now c.in-Ok-Some.found.0)) R' (state_seen c.args.bytes.now c.row.new.self.state) took.0 c.row.new.self.buffer.items (g.K.Sink.held c.args.out.now)
-    (rows_next c.args.frame.number c.args.before (slice_range c.args.bytes.now c.args.at c.args.frame.end) behind (slice_range c.args.bytes.now c.in-Ok-Some.found.1 c.args.frame.end) (row_seen c.args.bytes.now c.in-Ok-Some.found.0) said)
+    let R' = rest_of c.args.bytes.now c.args.frame (c.args.before + 1) c.in-Ok-Some.next in
+    let went = goes_row o s b R (row_at c.args.frame.number c.args.before (row_seen c.args.bytes.now c.next_row_into.new.row)) R' (state_seen c.args.bytes.now c.row.new.self.state) took.0 c.row.new.self.buffer.items (g.K.Sink.held c.args.out.now)
+    (rows_next c.args.frame.number c.args.before (slice_range c.args.bytes.now c.args.at c.args.frame.end) behind (slice_range c.args.bytes.now c.in-Ok-Some.next c.args.frame.end) (row_seen c.args.bytes.now c.next_row_into.new.row) said)
     took.1 took.2 in
     let gave = c.in_err-give.ensures.gives in
     let still : g.K.Sink.faults c.args.out.now ≤ g.K.Sink.faults c.args.out.now = omega arith in
@@ -62,9 +62,9 @@ returns-clause-comes g c =
     let s = state_seen c.args.bytes.now c.args.self.now.state in
     let b = c.args.self.now.buffer.items in
     let R = rest_of c.args.bytes.now c.args.frame c.args.before c.args.at in
-    let R' = rest_of c.args.bytes.now c.args.frame (c.args.before + 1) c.in-Ok-Some.found.1 in
-    let went = goes_row o s b R (row_at c.args.frame.number c.args.before (row_seen c.args.bytes.now c.in-Ok-Some.found.0)) R' (state_seen c.args.bytes.now c.row.new.self.state) took.0 c.row.new.self.buffer.items (g.K.Sink.held c.args.out.now)
-    (rows_next c.args.frame.number c.args.before (slice_range c.args.bytes.now c.args.at c.args.frame.end) behind (slice_range c.args.bytes.now c.in-Ok-Some.found.1 c.args.frame.end) (row_seen c.args.bytes.now c.in-Ok-Some.found.0) said)
+    let R' = rest_of c.args.bytes.now c.args.frame (c.args.before + 1) c.in-Ok-Some.next in
+    let went = goes_row o s b R (row_at c.args.frame.number c.args.before (row_seen c.args.bytes.now c.next_row_into.new.row)) R' (state_seen c.args.bytes.now c.row.new.self.state) took.0 c.row.new.self.buffer.items (g.K.Sink.held c.args.out.now)
+    (rows_next c.args.frame.number c.args.before (slice_range c.args.bytes.now c.args.at c.args.frame.end) behind (slice_range c.args.bytes.now c.in-Ok-Some.next c.args.frame.end) (row_seen c.args.bytes.now c.next_row_into.new.row) said)
     took.1 took.2 in
     let gave = c.in_ok-give.ensures.gives in
     rw c.in_ok-give.ensures.state

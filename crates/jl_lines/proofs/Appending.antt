@@ -1,5 +1,5 @@
 -- Parts of a line that are appended one after another.
-use Rattle.std.proofs.Common.{◌≡◌, ℕ, List, [], ◌∷◌, ◌++◌, codes, refl, ap, sym, ◌∙◌, append_assoc, append-nil}
+use Rattle.std.proofs.Common.{◌≡◌, ℕ, List, [], ◌∷◌, ◌++◌, codes, ap, sym, ◌∙◌, append_assoc, append-nil}
 use Rattle.jl_base.specs.Terms.{Item}
 use Rattle.jl_text.specs.Line.{spaced, line, text}
 

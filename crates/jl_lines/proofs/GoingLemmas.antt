@@ -1,16 +1,14 @@
 -- How the lines of a file come on, step by step.
-use Rattle.std.proofs.Common.{◌≡◌, ℕ, ◌+◌, ◌≤◌, List, [], ◌∷◌, ◌++◌, Option, Some, None, Result, Ok, Err, OnErr, refl, ap, sym, ◌∙◌, subst, append_assoc, append-nil, arith}
-use Rattle.std.specs.List.{flat_map}
+use Rattle.std.proofs.Common.{◌≡◌, ℕ, ◌≤◌, List, [], ◌∷◌, ◌++◌, Option, Some, None, Ok, Err, refl, ap, sym, ◌∙◌, append_assoc, append-nil, arith}
 use Rattle.jl_base.specs.Results.{Reading, followed, with_front}
 use Rattle.jl_base.specs.Terms.{Item}
 use Rattle.jl_base.specs.Causes.{Rose}
 use Rattle.jl_base.specs.Sinks.{Held, Adds, AddsFront}
 use Rattle.jl_base.specs.declared.kind.Kind.{Kind}
-use Rattle.jl_base.specs.declared.place.Place.{Place}
 use Rattle.jl_base.specs.declared.place.Fault.{Fault}
-use Rattle.jl_base.proofs.SinkLemmas.{Adds-nil, Adds-append, Adds-whole}
+use Rattle.jl_base.proofs.SinkLemmas.{Adds-nil, Adds-append}
 use Rattle.jl_text.specs.Line.{line, text}
-use Rattle.jl_rows.specs.Written.{StreamOptions, Row}
+use Rattle.jl_rows.specs.Written.{StreamOptions}
 use Rattle.jl_rows.specs.Files.{Placed}
 use Rattle.jl_state.specs.States.{State}
 use Rattle.jl_state.specs.Steps.{Stepped, step}
@@ -69,7 +67,7 @@ module _ (o : StreamOptions) (s : State) (b : List ℕ) (R : Reading Placed Faul
     given = went.given ++ g;
     adds = Adds-append h h' h'' went.given g went.adds adds;
     lines = went.lines ∙ ap (λ (x : List ℕ). went.given ++ (x ++ text (run_on o s' R').items)) e
-      ∙ ap (λ (x : List ℕ). went.given ++ x) (append_assoc g b'' (text (run_on o s' R').items)) ∙ sym (append_assoc went.given g (b'' ++ text (run_on o s' R').items));
+        ∙ ap (λ (x : List ℕ). went.given ++ x) (append_assoc g b'' (text (run_on o s' R').items)) ∙ sym (append_assoc went.given g (b'' ++ text (run_on o s' R').items));
     fault = went.fault;
   }
 

@@ -3,7 +3,7 @@ use Rattle.std.proofs.Common.{◌≡◌, ℕ, Bool, true, false, List, [], ◌�
 use Rattle.std.proofs.lemmas.List.{append-nil}
 use Rattle.std.specs.List.{join_with_byte}
 use Rattle.jl_base.specs.Terms.{Value, Item}
-use Rattle.jl_text.specs.Line.{line, statement, spaced, term_text, graph_texts}
+use Rattle.jl_text.specs.Line.{line, statement, term_text, graph_texts}
 use Rattle.jl_rows.specs.Written.{StreamOptions}
 use Rattle.jl_rows.specs.Decoder.{is_quads, is_graphs}
 use Rattle.jl_state.specs.States.{State}

@@ -5,7 +5,6 @@ use Rattle.jl_base.specs.Results.{Reading, joined}
 use Rattle.jl_base.specs.Terms.{Item}
 use Rattle.jl_base.specs.Causes.{Rose}
 use Rattle.jl_base.specs.Sinks.{Held, Adds, AddsFront}
-use Rattle.jl_base.specs.declared.kind.Kind.{Kind}
 use Rattle.jl_base.specs.declared.place.Fault.{Fault}
 use Rattle.jl_text.specs.Line.{text}
 use Rattle.jl_rows.specs.Written.{StreamOptions}

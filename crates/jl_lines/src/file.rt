@@ -12,7 +12,14 @@ use std::alloc::Global;
 
 impl Lines {
     // The frame of a number at a place of the file: the place behind it, or None at the file's end.
-    fn next_frame<K: Sink>(&mut self, alloc: Global, bytes: &[u8], at: usize, number: u64, out: &mut K) -> Result<Option<usize>, Broken>
+    fn next_frame<K: Sink>(
+        &mut self,
+        alloc: Global,
+        bytes: &[u8],
+        at: usize,
+        number: u64,
+        out: &mut K,
+    ) -> Result<Option<usize>, Broken>
         requires lawful { IsLawful bytes.now self.old.state }
         requires short { length bytes.now ≤ 2 ^ 30 }
         requires start { at ≤ length bytes.now }
@@ -26,7 +33,10 @@ impl Lines {
             Ok(Some(found)) => found,
             Ok(None) => return Ok(None),
             Err(kind) => {
-                let place = Place { frame: number, row: 0 };
+                let place = Place {
+                    frame: number,
+                    row: 0,
+                };
                 return Err(Broken::Malformed(Fault { place, kind }));
             }
         };

@@ -35,7 +35,15 @@ fn malformed(frame: Frame, before: u32, kind: Kind) -> Broken
 impl Lines {
     // The next row of a frame from a place in it on, behind so many rows: the place behind the row, or None where the
     // frame has none.
-    fn next<K: Sink>(&mut self, alloc: Global, bytes: &[u8], at: usize, frame: Frame, before: u32, out: &mut K) -> Result<Option<usize>, Broken>
+    fn next<K: Sink>(
+        &mut self,
+        alloc: Global,
+        bytes: &[u8],
+        at: usize,
+        frame: Frame,
+        before: u32,
+        out: &mut K,
+    ) -> Result<Option<usize>, Broken>
         requires lawful { IsLawful bytes.now self.old.state }
         requires short { length bytes.now ≤ 2 ^ 30 }
         requires start { at ≤ frame.end }
@@ -62,7 +70,14 @@ impl Lines {
     }
 
     // The lines of a frame whose body begins at a place.
-    pub(crate) fn frame<K: Sink>(&mut self, alloc: Global, bytes: &[u8], at: usize, frame: Frame, out: &mut K) -> Result<(), Broken>
+    pub(crate) fn frame<K: Sink>(
+        &mut self,
+        alloc: Global,
+        bytes: &[u8],
+        at: usize,
+        frame: Frame,
+        out: &mut K,
+    ) -> Result<(), Broken>
         requires lawful { IsLawful bytes.now self.old.state }
         requires short { length bytes.now ≤ 2 ^ 30 }
         requires start { at ≤ frame.end }

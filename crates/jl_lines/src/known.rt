@@ -5,12 +5,19 @@ ghost use Rattle.jl_state.specs.Extents.{text_in, IsSound};
 ghost use Rattle.jl_state.specs.KnownTerms.{known_value, tail_value, AreParts, HasKnown, HasTail};
 
 use jl_state::{Extent, Known, KnownTail, KnownThree};
-use jl_text::{push_clean_iri_at, push_datatype_at, push_iri, push_label_at, push_string_at, push_tag_at};
+use jl_text::{
+    push_clean_iri_at, push_datatype_at, push_iri, push_label_at, push_string_at, push_tag_at,
+};
 use std::alloc::AllocError;
 
 /// Appends an IRI by its prefix and its name.
 #[inline]
-pub fn push_iri_of(out: &mut Vec<u8>, bytes: &[u8], prefix: Extent, name: Extent) -> Result<(), AllocError>
+pub fn push_iri_of(
+    out: &mut Vec<u8>,
+    bytes: &[u8],
+    prefix: Extent,
+    name: Extent,
+) -> Result<(), AllocError>
     requires prefix { IsSound bytes.now prefix }
     requires name { IsSound bytes.now name }
     ensures { OnOk result (out.new.items ≡ out.old.items ++ iri_text (text_in bytes.now prefix ++ text_in bytes.now name)) }
@@ -62,7 +69,12 @@ pub fn push_known(out: &mut Vec<u8>, bytes: &[u8], term: &Known) -> Result<(), A
 // Appends a triple term, whose three these are.
 #[cycle(push)]
 #[tactic(auto, unfolding(jl_text::specs::Line::term_text))]
-fn push_three(out: &mut Vec<u8>, bytes: &[u8], whole: &Known, three: &KnownThree) -> Result<(), AllocError>
+fn push_three(
+    out: &mut Vec<u8>,
+    bytes: &[u8],
+    whole: &Known,
+    three: &KnownThree,
+) -> Result<(), AllocError>
     requires has { HasKnown bytes.now whole.now }
     requires parts { AreParts bytes.now whole.now three.now }
     ensures { OnOk result (out.new.items ≡ out.old.items ++ term_text (known_value bytes.now whole.now)) }

@@ -9,6 +9,8 @@ mod frame;
 mod known;
 mod lines;
 mod statement;
+#[cfg(test)]
+mod tests;
 mod write;
 
 pub use write::{Ended, write_lines};

@@ -46,7 +46,12 @@ impl Lines {
             Stated::Statement => push_statement(&mut self.buffer, bytes, &self.state)?,
             Stated::Namespace { name, prefix, iri } => {
                 let at = name.at as usize;
-                push_namespace(&mut self.buffer, &bytes[at..at + name.len as usize], prefix.text(bytes), iri.text(bytes))?;
+                push_namespace(
+                    &mut self.buffer,
+                    &bytes[at..at + name.len as usize],
+                    prefix.text(bytes),
+                    iri.text(bytes),
+                )?;
             }
         }
         Ok(())

@@ -1,5 +1,4 @@
 use Rattle.std.proofs.Common.{ap, sym, ◌∙◌}
-use Rattle.jl_base.specs.Terms.{Value}
 use Rattle.jl_state.specs.KnownTerms.{known_value}
 use Rattle.jl_state.specs.declared.known.Known.{Known}
 use Rattle.jl_state.proofs.NestedTerms.{value_of_nested}

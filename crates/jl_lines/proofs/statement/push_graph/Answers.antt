@@ -1,7 +1,4 @@
-use Rattle.std.proofs.Common.{ap, sym, ◌∙◌, ◌++◌, None, Some, append-nil}
-use Rattle.jl_text.specs.Line.{graph_texts}
-use Rattle.jl_state.specs.Lawful.{maybe_value, value_or_default}
-use Rattle.jl_lines.specs.Spaces.{after_space}
+use Rattle.std.proofs.Common.{sym, ◌∙◌}
 use Rattle.jl_lines.proofs.Graphs.{untold, told, no_graph}
 use Rattle.jl_lines.proofs.statement.push_graph.Goals as goal
 

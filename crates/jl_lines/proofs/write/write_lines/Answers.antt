@@ -1,4 +1,4 @@
-use Rattle.std.proofs.Common.{◌∙◌, ap, sym, subst, refl, arith, [], None}
+use Rattle.std.proofs.Common.{ap, sym, refl, arith}
 use Rattle.jl_base.specs.Results.{Reading}
 use Rattle.jl_base.specs.Terms.{Item}
 use Rattle.jl_base.specs.declared.place.Fault.{Fault}
@@ -6,7 +6,6 @@ use Rattle.jl_rows.specs.Decoder.{decode}
 use Rattle.jl_rows.specs.Seen.{options_seen}
 use Rattle.jl_rows.proofs.FileLaws.{short_file}
 use Rattle.jl_lines.specs.declared.write.Ended.TheVariants as ended
-use Rattle.jl_lines.specs.Writes.{WritesLines}
 use Rattle.jl_lines.proofs.Endings.{decode_empty, decode_bad, decode_first, no_lines}
 use Rattle.jl_lines.proofs.write.write_lines.Goals as goal
 

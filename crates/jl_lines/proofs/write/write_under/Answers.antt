@@ -1,14 +1,7 @@
-use Rattle.std.proofs.Common.{◌∙◌, ap, sym, subst, []}
-use Rattle.jl_base.specs.Results.{Reading}
-use Rattle.jl_base.specs.Terms.{Item}
-use Rattle.jl_base.specs.declared.place.Fault.{Fault}
 use Rattle.jl_rows.specs.Files.{all_rows}
 use Rattle.jl_rows.specs.Seen.{options_seen}
 use Rattle.jl_state.specs.States.{opening}
-use Rattle.jl_state.specs.Running.{run_on}
 use Rattle.jl_state.specs.Lawful.{state_seen}
-use Rattle.jl_lines.specs.Going.{from_frame}
-use Rattle.jl_lines.specs.Writes.{WritesLines}
 use Rattle.jl_lines.proofs.Endings.{ended_so, opening_runs, from_first}
 use Rattle.jl_lines.proofs.write.write_under.Goals as goal
 

@@ -1,0 +1,45 @@
+use crate::{Ended, write_lines};
+use jl_base::{Fault, Kind, MemShelf, MemSource, Place, Shelf, Space};
+use std::test::Fail;
+
+// Options, a name and a triple.
+const ONE: &[u8] = b"\x23\x0A\x0C\x0A\x0A\x10\x01\x48\x08\x50\x08\x58\x08\x78\x01\
+    \x0A\x05\x4A\x03\x12\x01a\x0A\x0C\x12\x0A\x0A\0\x2A\x02\x10\x01\x4A\x02\x10\x01";
+
+// The same, and a frame whose second row names an entry that was never written.
+const FAULTY: &[u8] = b"\x23\x0A\x0C\x0A\x0A\x10\x01\x48\x08\x50\x08\x58\x08\x78\x01\
+    \x0A\x05\x4A\x03\x12\x01a\x0A\x0C\x12\x0A\x0A\0\x2A\x02\x10\x01\x4A\x02\x10\x01\
+    \x0C\x0A\x02\x12\0\x0A\x06\x12\x04\x0A\x02\x10\x05";
+
+// How the writing of a file's lines ended, and what was written.
+#[test]
+fn lines_of_a_file(rt: HostRuntime) -> Result<(), Fail> {
+    let alloc = rt.alloc();
+    let fault = Fault {
+        place: Place { frame: 2, row: 2 },
+        kind: Kind::NoEntry,
+    };
+    let files: [(&[u8], usize, bool, &[u8]); 4] = [
+        (b"", 0, true, b""),
+        (ONE, 100, true, b"<a> <a> <a> .\n"),
+        (FAULTY, 100, false, b"<a> <a> <a> .\n<a> <a> <a> .\n"),
+        (ONE, 5, false, b"<a> <"),
+    ];
+    for (file, room, whole, lines) in files {
+        let mut space = Space::new(alloc);
+        assert_eq!(rt;
+            space.fill(&mut MemSource::new(alloc, file, 100, &[])?, 100),
+            Ok(())
+        );
+        let mut shelf = MemShelf::new(alloc, 100, room, 1, &[])?;
+        match write_lines(alloc, &space, &mut shelf) {
+            Ended::Whole => assert!(rt; whole),
+            Ended::Malformed(found) => assert_eq!(rt; found, fault),
+            Ended::WriteFault => assert_eq!(rt; room, 5),
+            Ended::NoMemory => assert!(rt; false),
+        }
+        assert_eq!(rt; shelf.turn().is_ok(), true);
+        assert_eq!(rt; shelf.part(0), lines);
+    }
+    Ok(())
+}

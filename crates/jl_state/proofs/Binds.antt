@@ -1,6 +1,6 @@
 -- Answers that go on.
-use Rattle.std.proofs.Common.{◌≡◌, ℕ, Bool, true, false, Option, Some, None, Result, Ok, Err, refl, ap, sym, ◌∙◌, cond}
-use Rattle.jl_base.specs.Results.{◌>>=◌, some_or, answered}
+use Rattle.std.proofs.Common.{◌≡◌, Result, Ok, Err, refl}
+use Rattle.jl_base.specs.Results.{◌>>=◌}
 
 -- two steps that go on from one answer
 pub bind_assoc : {A B C E : Type 0} (r : Result A E) (f : A → Result B E) (g : B → Result C E) → ((r >>= f) >>= g) ≡ (r >>= λ (x : A). f x >>= g)

@@ -1,5 +1,5 @@
 -- How deep a term nests.
-use Rattle.std.proofs.Common.{◌≡◌, ℕ, ◌+◌, ◌*◌, ◌<◌, ◌≤◌, max, refl, ap, arith}
+use Rattle.std.proofs.Common.{◌≡◌, ℕ, ◌+◌, ◌*◌, ◌<◌, max, ap, arith}
 use Rattle.jl_rows.specs.Written.{Term}
 
 abbrev pub depth : Term → ℕ

@@ -1,22 +1,21 @@
 -- A step from a state that stands for a history follows the definitions.
-use Rattle.std.proofs.Common.{◌≡◌, ℕ, zero, suc, ◌+◌, ◌<◌, ◌≤◌, ◌==◌, ◌&&◌, Bool, true, false, not, List, [], ◌∷◌, length, replicate, Option, Some, None, is_some, Result, Ok, Err, refl, ap, subst, sym, ◌∙◌, cond, arith, get_or, set, get_or-set_same, get_or-set_other, ◌⊎◌, ◌≢◌, inl, inr, nat_lt, eq-eqb}
-use Rattle.std.proofs.lemmas.List.{length-set, get_or-replicate, length-replicate}
-use Rattle.std.proofs.lemmas.Bool.{cases_eq, cases_lt, ne_eqb, lt-ltb, le-ltb}
+use Rattle.std.proofs.Common.{◌≡◌, ℕ, ◌+◌, ◌<◌, ◌==◌, Bool, true, false, List, ◌∷◌, length, Option, Some, None, Result, Ok, refl, ap, sym, ◌∙◌, cond, get_or, set, get_or-set_same, get_or-set_other, ◌≢◌, inl, inr, eq-eqb}
+use Rattle.std.proofs.lemmas.List.{length-set}
+use Rattle.std.proofs.lemmas.Bool.{cases_eq, ne_eqb}
 use Rattle.std.specs.Option.{option_or}
-use Rattle.jl_base.specs.Results.{◌>>=◌, refuse_if, some_or, answered}
-use Rattle.jl_base.specs.Terms.{Value, Item}
+use Rattle.jl_base.specs.Results.{some_or, answered}
+use Rattle.jl_base.specs.Terms.{Value}
 use Rattle.jl_base.specs.declared.kind.Kind.{Kind}
-use Rattle.jl_base.specs.declared.kind.Kind.TheVariants.{OptionsDiffer, WrongRow, BadEntry, NoTerm, NoGraph, GraphOpen}
+use Rattle.jl_base.specs.declared.kind.Kind.TheVariants.{NoTerm}
 use Rattle.jl_rows.specs.declared.row.Table.{Table}
 use Rattle.jl_rows.specs.Written.{Ids, Term, StreamOptions, Row}
-use Rattle.jl_rows.specs.History.{History, slot, entry_id, ids_written, is_table, seen_after, seen_in, prefix_id, name_id, counted}
-use Rattle.jl_rows.specs.Values.{Slots, Position, value, value_in, iri_text, slots_of, last_term, open_graph, set_by, seen_before, is_unset}
-use Rattle.jl_rows.specs.Decoder.{size_of, is_same, is_graphs, is_wrong_row, term_at, graph_around, stated, said_after, meaning}
+use Rattle.jl_rows.specs.History.{History, slot, entry_id, ids_written, seen_after, seen_in}
+use Rattle.jl_rows.specs.Values.{Position, value, slots_of, last_term, open_graph, is_unset}
+use Rattle.jl_rows.specs.Decoder.{size_of, term_at}
 use Rattle.jl_state.specs.States.{State, Filling, table_of, entry_of, term_of, slots_in}
-use Rattle.jl_state.specs.Steps.{Stepped, ids_after, text_at, looked, placed, id_after, entered, entry_step, graph_for, triple_step, quad_step, graph_start_step, graph_end_step, namespace_step, row_step, step}
+use Rattle.jl_state.specs.Steps.{ids_after, id_after, entered}
 use Rattle.jl_state.specs.Stands.{last_ids, Stands}
-use Rattle.jl_state.proofs.Binds.{bind_assoc, bind_ext}
-use Rattle.jl_state.proofs.Looks.{counted-cons, last_ids-cons, looked_is, placed_is, set_or, behind}
+use Rattle.jl_state.proofs.Looks.{counted-cons, last_ids-cons}
 
 -- the slots of a state that stands for a history are the history's
 pub same_slots : {o : StreamOptions} {s : State} {H : History} → Stands o s H → slots_in s ≡ slots_of H
@@ -96,7 +95,7 @@ module _ (o : StreamOptions) (s : State) (H : History) (h : Stands o s H) where
     entries = h.entries;
     ids = refl;
     terms = each (λ k. term_of (record s { ids = last_ids (seen_after z (seen_after y (seen_after x (seen_in H)))); subject = Some a; predicate = Some b; object = Some c }) k ≡ last_term k (Row.Triple x y z ∷ H))
-      (answered_term (is_unset x) (last_term Position.Subject H) _ a p) (answered_term (is_unset y) (last_term Position.Predicate H) _ b q) (answered_term (is_unset z) (last_term Position.Object H) _ c r) (h.terms Position.Graph);
+        (answered_term (is_unset x) (last_term Position.Subject H) _ a p) (answered_term (is_unset y) (last_term Position.Predicate H) _ b q) (answered_term (is_unset z) (last_term Position.Object H) _ c r) (h.terms Position.Graph);
     graph = h.graph;
   }
 
@@ -109,7 +108,7 @@ module _ (o : StreamOptions) (s : State) (H : History) (h : Stands o s H) where
     entries = h.entries;
     ids = refl;
     terms = each (λ k. term_of (record s { ids = last_ids (seen_after w (seen_after z (seen_after y (seen_after x (seen_in H))))); subject = Some a; predicate = Some b; object = Some c; graph = Some d }) k ≡ last_term k (Row.Quad x y z w ∷ H))
-      (answered_term (is_unset x) (last_term Position.Subject H) _ a p) (answered_term (is_unset y) (last_term Position.Predicate H) _ b q) (answered_term (is_unset z) (last_term Position.Object H) _ c r) (answered_term (is_unset w) (last_term Position.Graph H) _ d t);
+        (answered_term (is_unset x) (last_term Position.Subject H) _ a p) (answered_term (is_unset y) (last_term Position.Predicate H) _ b q) (answered_term (is_unset z) (last_term Position.Object H) _ c r) (answered_term (is_unset w) (last_term Position.Graph H) _ d t);
     graph = h.graph;
   }
 
@@ -117,8 +116,9 @@ module _ (o : StreamOptions) (s : State) (H : History) (h : Stands o s H) where
 slot_entered : (xs : Filling) (m n id : ℕ) (text : List ℕ) (before : Option (List ℕ)) → m ≡ n → n < length xs → get_or xs id None ≡ before
     → get_or (set xs n (Some text)) id None ≡ option_or (cond (m == id) (Some text) None) before
 slot_entered xs m n id text before same fits was = elim (cases_eq m id) [
-    inl e ↦ let at : id ≡ n = cc in rw (eq-eqb m id e) (rw at (get_or-set_same xs n (Some text) None fits))
-  | inr ne ↦ let other : id ≢ n = λ k. ne (same ∙ sym k) in rw (ne_eqb m id ne) (get_or-set_other xs n id (Some text) None other ∙ was) ]
+  | inl e ↦ let at : id ≡ n = cc in rw (eq-eqb m id e) (rw at (get_or-set_same xs n (Some text) None fits))
+  | inr ne ↦ let other : id ≢ n = λ k. ne (same ∙ sym k) in rw (ne_eqb m id ne) (get_or-set_other xs n id (Some text) None other ∙ was)
+]
 
 module _ (o : StreamOptions) (s : State) (H : History) (h : Stands o s H) where
   -- the id that an entry gets
@@ -131,33 +131,33 @@ module _ (o : StreamOptions) (s : State) (H : History) (h : Stands o s H) where
   unfolding slot seen_in last_term open_graph
   after_entry Table.Name id text fits = record {
     sizes = each_table (λ t. length (table_of (entered Table.Name (id_after id s.name_entry) text s) t) ≡ size_of o t + 1)
-      (length-set s.tables.names (id_after id s.name_entry) (Some text) ∙ h.sizes Table.Name) (h.sizes Table.Prefix) (h.sizes Table.Datatype);
+        (length-set s.tables.names (id_after id s.name_entry) (Some text) ∙ h.sizes Table.Name) (h.sizes Table.Prefix) (h.sizes Table.Datatype);
     slots = each_table (λ t. (n : ℕ) → slots_in (entered Table.Name (id_after id s.name_entry) text s) t n ≡ slot t n (Row.Entry Table.Name id text ∷ H))
-      (λ n. slot_entered s.tables.names _ _ n text _ (entry_id_is Table.Name id text) fits (h.slots Table.Name n)) (h.slots Table.Prefix) (h.slots Table.Datatype);
+        (λ n. slot_entered s.tables.names _ _ n text _ (entry_id_is Table.Name id text) fits (h.slots Table.Name n)) (h.slots Table.Prefix) (h.slots Table.Datatype);
     entries = each_table (λ t. entry_of (entered Table.Name (id_after id s.name_entry) text s) t ≡ entry_id t (Row.Entry Table.Name id text ∷ H))
-      (sym (entry_id_is Table.Name id text)) (h.entries Table.Prefix) (h.entries Table.Datatype);
+        (sym (entry_id_is Table.Name id text)) (h.entries Table.Prefix) (h.entries Table.Datatype);
     ids = h.ids;
     terms = each (λ x. term_of s x ≡ last_term x (Row.Entry Table.Name id text ∷ H)) (h.terms Position.Subject) (h.terms Position.Predicate) (h.terms Position.Object) (h.terms Position.Graph);
     graph = h.graph;
   }
   after_entry Table.Prefix id text fits = record {
     sizes = each_table (λ t. length (table_of (entered Table.Prefix (id_after id s.prefix_entry) text s) t) ≡ size_of o t + 1)
-      (h.sizes Table.Name) (length-set s.tables.prefixes (id_after id s.prefix_entry) (Some text) ∙ h.sizes Table.Prefix) (h.sizes Table.Datatype);
+        (h.sizes Table.Name) (length-set s.tables.prefixes (id_after id s.prefix_entry) (Some text) ∙ h.sizes Table.Prefix) (h.sizes Table.Datatype);
     slots = each_table (λ t. (n : ℕ) → slots_in (entered Table.Prefix (id_after id s.prefix_entry) text s) t n ≡ slot t n (Row.Entry Table.Prefix id text ∷ H))
-      (h.slots Table.Name) (λ n. slot_entered s.tables.prefixes _ _ n text _ (entry_id_is Table.Prefix id text) fits (h.slots Table.Prefix n)) (h.slots Table.Datatype);
+        (h.slots Table.Name) (λ n. slot_entered s.tables.prefixes _ _ n text _ (entry_id_is Table.Prefix id text) fits (h.slots Table.Prefix n)) (h.slots Table.Datatype);
     entries = each_table (λ t. entry_of (entered Table.Prefix (id_after id s.prefix_entry) text s) t ≡ entry_id t (Row.Entry Table.Prefix id text ∷ H))
-      (h.entries Table.Name) (sym (entry_id_is Table.Prefix id text)) (h.entries Table.Datatype);
+        (h.entries Table.Name) (sym (entry_id_is Table.Prefix id text)) (h.entries Table.Datatype);
     ids = h.ids;
     terms = each (λ x. term_of s x ≡ last_term x (Row.Entry Table.Prefix id text ∷ H)) (h.terms Position.Subject) (h.terms Position.Predicate) (h.terms Position.Object) (h.terms Position.Graph);
     graph = h.graph;
   }
   after_entry Table.Datatype id text fits = record {
     sizes = each_table (λ t. length (table_of (entered Table.Datatype (id_after id s.datatype_entry) text s) t) ≡ size_of o t + 1)
-      (h.sizes Table.Name) (h.sizes Table.Prefix) (length-set s.tables.datatypes (id_after id s.datatype_entry) (Some text) ∙ h.sizes Table.Datatype);
+        (h.sizes Table.Name) (h.sizes Table.Prefix) (length-set s.tables.datatypes (id_after id s.datatype_entry) (Some text) ∙ h.sizes Table.Datatype);
     slots = each_table (λ t. (n : ℕ) → slots_in (entered Table.Datatype (id_after id s.datatype_entry) text s) t n ≡ slot t n (Row.Entry Table.Datatype id text ∷ H))
-      (h.slots Table.Name) (h.slots Table.Prefix) (λ n. slot_entered s.tables.datatypes _ _ n text _ (entry_id_is Table.Datatype id text) fits (h.slots Table.Datatype n));
+        (h.slots Table.Name) (h.slots Table.Prefix) (λ n. slot_entered s.tables.datatypes _ _ n text _ (entry_id_is Table.Datatype id text) fits (h.slots Table.Datatype n));
     entries = each_table (λ t. entry_of (entered Table.Datatype (id_after id s.datatype_entry) text s) t ≡ entry_id t (Row.Entry Table.Datatype id text ∷ H))
-      (h.entries Table.Name) (h.entries Table.Prefix) (sym (entry_id_is Table.Datatype id text));
+        (h.entries Table.Name) (h.entries Table.Prefix) (sym (entry_id_is Table.Datatype id text));
     ids = h.ids;
     terms = each (λ x. term_of s x ≡ last_term x (Row.Entry Table.Datatype id text ∷ H)) (h.terms Position.Subject) (h.terms Position.Predicate) (h.terms Position.Object) (h.terms Position.Graph);
     graph = h.graph;

@@ -1,11 +1,11 @@
 -- The last ids that a state keeps are those of the IRIs that were seen, so terms mean the same.
-use Rattle.std.proofs.Common.{◌≡◌, ℕ, ◌+◌, ◌==◌, Bool, true, false, List, [], ◌∷◌, map, Option, Some, None, Result, Ok, Err, refl, ap, sym, ◌∙◌, cond, arith}
+use Rattle.std.proofs.Common.{◌≡◌, ℕ, ◌+◌, ◌==◌, Bool, true, false, List, ◌∷◌, map, Option, Result, Ok, Err, refl, ap, sym, ◌∙◌, cond, arith}
 use Rattle.jl_base.specs.Results.{◌>>=◌, some_or}
 use Rattle.jl_base.specs.Terms.{Value}
 use Rattle.jl_base.specs.declared.kind.Kind.{Kind}
 use Rattle.jl_base.specs.declared.kind.Kind.TheVariants.{NoTerm}
 use Rattle.jl_rows.specs.Written.{Ids, Term}
-use Rattle.jl_rows.specs.History.{last_above_0, after_it, counted, seen_after, prefix_id, name_id}
+use Rattle.jl_rows.specs.History.{last_above_0, after_it, counted, seen_after, prefix_id}
 use Rattle.jl_rows.specs.Values.{Slots, value, iri_text, tail_of, is_unset}
 use Rattle.jl_state.specs.Steps.{ids_after, text_at, looked, placed}
 use Rattle.jl_state.specs.Stands.{last_ids}

@@ -1,8 +1,6 @@
 -- Triple terms by where their texts lie: what they mean, and what they keep.
-use Rattle.std.proofs.Common.{◌≡◌, ℕ, ◌+◌, ◌<◌, max, List, Result, Ok, Err, refl, ap, sym, subst, arith, ◌∙◌}
-use Rattle.jl_base.specs.Results.{◌>>=◌}
+use Rattle.std.proofs.Common.{◌≡◌, ℕ, List, Ok, refl, ap, sym, subst, arith, ◌∙◌}
 use Rattle.jl_base.specs.Terms as terms
-use Rattle.jl_base.specs.declared.kind.Kind.{Kind}
 use Rattle.jl_rows.specs.Written as written
 use Rattle.jl_rows.specs.Written.{Ids}
 use Rattle.jl_rows.specs.Values.{Slots}
@@ -10,7 +8,7 @@ use Rattle.jl_state.specs.declared.known.Known.{Known}
 use Rattle.jl_state.specs.declared.known.KnownThree.{KnownThree}
 use Rattle.jl_state.specs.declared.known.Known.TheVariants.{Triple}
 use Rattle.jl_state.specs.Steps.{Looked, looked}
-use Rattle.jl_state.specs.KnownTerms.{known_value, HasKnown, depth, ArePart, AreParts}
+use Rattle.jl_state.specs.KnownTerms.{known_value, HasKnown, AreParts}
 
 pub value_of_nested : (bytes : List ℕ) (three : KnownThree) → known_value bytes (Triple three) ≡ terms.Nested (known_value bytes three.s) (known_value bytes three.p) (known_value bytes three.o)
 unfolding Rattle.jl_state.specs.declared.known.Known.TheBlock.hidden-the_row-KnownThree-0 denote.Hole.Carrier.hidden

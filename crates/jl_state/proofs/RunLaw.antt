@@ -1,5 +1,5 @@
 -- A run follows the decoder, row by row.
-use Rattle.std.proofs.Common.{◌≡◌, ℕ, List, [], ◌∷◌, Option, Some, None, Result, Ok, Err, refl, ap, sym, ◌∙◌}
+use Rattle.std.proofs.Common.{◌≡◌, List, [], ◌∷◌, Option, None, Result, Ok, Err, refl, ap, sym, ◌∙◌}
 use Rattle.jl_base.specs.Results.{Reading, followed}
 use Rattle.jl_base.specs.Terms.{Item}
 use Rattle.jl_base.specs.declared.kind.Kind.{Kind}

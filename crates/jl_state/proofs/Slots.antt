@@ -1,5 +1,5 @@
 -- Slots of a table, as they are kept and as they are seen.
-use Rattle.std.proofs.Common.{◌≡◌, ◌≢◌, ℕ, ◌+◌, ◌<◌, ◌==◌, zero, suc, List, [], ◌∷◌, length, map, set, replicate, Option, Some, None, refl, ap, sym, ◌∙◌, arith, cond, ne_eqb, subst}
+use Rattle.std.proofs.Common.{◌≡◌, ℕ, ◌+◌, ◌<◌, zero, suc, List, ◌∷◌, length, map, set, replicate, Option, Some, None, refl, ap, sym, ◌∙◌, arith, ne_eqb, subst}
 use Rattle.std.proofs.lemmas.List.{map-set, length-set, length-replicate}
 use Rattle.jl_state.specs.declared.extent.Extent.{Extent}
 use Rattle.jl_state.specs.Extents.{text_in, slot_seen, unfilled_len, IsFilled, AreSound}
@@ -12,10 +12,11 @@ filled_seen bytes e text said filled = rw (ne_eqb e.len unfilled_len filled) (ap
 pub entered_is : (bytes : List ℕ) (slots : List Extent) (id n : ℕ) (e : Extent) (text : List ℕ) → id ≡ n → id < length slots → text_in bytes e ≡ text → IsFilled e
     → (n < length slots) × (map (slot_seen bytes) (set slots id e) ≡ set (map (slot_seen bytes) slots) n (Some text)) × (id ≡ n) × (length (set slots id e) ≡ length slots)
 entered_is bytes slots id n e text same fits said filled = (
-    omega arith,
-    map-set (slot_seen bytes) slots id e ∙ ap (λ (k : ℕ). set (map (slot_seen bytes) slots) k (slot_seen bytes e)) same ∙ ap (set (map (slot_seen bytes) slots) n) (filled_seen bytes e text said filled),
-    same,
-    length-set slots id e)
+  omega arith,
+  map-set (slot_seen bytes) slots id e ∙ ap (λ (k : ℕ). set (map (slot_seen bytes) slots) k (slot_seen bytes e)) same ∙ ap (set (map (slot_seen bytes) slots) n) (filled_seen bytes e text said filled),
+  same,
+  length-set slots id e,
+)
 
 -- the slot that isn't filled, as the code has it
 abbrev pub unfilled_slot : Extent

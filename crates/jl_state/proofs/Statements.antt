@@ -1,11 +1,10 @@
 -- A statement's terms, one position after another.
-use Rattle.std.proofs.Common.{◌≡◌, ℕ, ◌==◌, ◌&&◌, Bool, true, false, List, [], ◌∷◌, Option, Some, None, is_some, is_none, Result, Ok, Err, refl, ap, sym, ◌∙◌, subst, cond}
+use Rattle.std.proofs.Common.{◌≡◌, ℕ, ◌==◌, ◌&&◌, Bool, true, false, List, [], ◌∷◌, Option, Some, None, is_none, Result, Ok, Err, refl, ap, sym, ◌∙◌, cond}
 use Rattle.jl_base.specs.Results.{◌>>=◌, some_or}
 use Rattle.jl_base.specs.Terms.{Value, Item}
 use Rattle.jl_base.specs.declared.kind.Kind.{Kind}
 use Rattle.jl_base.specs.declared.kind.Kind.TheVariants.{NoGraph}
 use Rattle.jl_rows.specs.Written.{Ids, Term, StreamOptions}
-use Rattle.jl_rows.specs.Values.{Slots}
 use Rattle.jl_rows.specs.Decoder.{is_quads, is_graphs, stated}
 use Rattle.jl_state.specs.States.{State, slots_in}
 use Rattle.jl_state.specs.Steps.{Stepped, Looked, placed, graph_for, triple_step, quad_step}
@@ -67,8 +66,8 @@ module _ (o : StreamOptions) (t : State) (x y z : Term) (there : (is_graphs o &&
       → triple_step o x y z t ≡ Ok (behind_triple o t (Some a) (Some b) (Some c) k)
   triple_values a b c i j k form p q r =
       rw (form, first, p, q, r)
-        (ap (λ (item : Item). let r : Result (State × List Item) Kind = Ok (record t { ids = k; subject = Some a; predicate = Some b; object = Some c }, item ∷ []) in r)
-          (stated_there (is_graphs o) (value_or_default t.open_graph) a b c))
+      (ap (λ (item : Item). let r : Result (State × List Item) Kind = Ok (record t { ids = k; subject = Some a; predicate = Some b; object = Some c }, item ∷ []) in r)
+      (stated_there (is_graphs o) (value_or_default t.open_graph) a b c))
 
   pub triple_three : (S P O : Option Value) (i j k : Ids) → is_quads o ≡ false → held (placed (slots_in t) t.ids t.subject x) ≡ Ok (S, i) → held (placed (slots_in t) i t.predicate y) ≡ Ok (P, j) → held (placed (slots_in t) j t.object z) ≡ Ok (O, k)
       → triple_step o x y z t ≡ Ok (behind_triple o t S P O k)

@@ -1,20 +1,19 @@
 -- One step, for every row.
-use Rattle.std.proofs.Common.{◌≡◌, ℕ, zero, suc, ◌+◌, ◌<◌, ◌≤◌, ◌==◌, Bool, true, false, not, List, [], ◌∷◌, length, Option, Some, None, is_some, Result, Ok, Err, refl, ap, subst, sym, ◌∙◌, cond, arith, ◌⊎◌, inl, inr, nat_lt, lt-ltb, le-ltb, get_or, replicate}
+use Rattle.std.proofs.Common.{◌≡◌, ℕ, zero, suc, ◌+◌, Bool, true, false, not, List, [], ◌∷◌, length, Option, Some, None, is_some, Result, Ok, Err, refl, ap, subst, sym, ◌∙◌, cond, arith, inl, inr, nat_lt, lt-ltb, le-ltb, get_or, replicate}
 use Rattle.std.proofs.lemmas.Bool.{cases_lt}
 use Rattle.std.proofs.lemmas.List.{length-replicate}
-use Rattle.jl_base.specs.Results.{◌>>=◌, refuse_if, some_or, answered}
+use Rattle.jl_base.specs.Results.{◌>>=◌, refuse_if, some_or}
 use Rattle.jl_base.specs.Terms.{Value, Item}
 use Rattle.jl_base.specs.declared.kind.Kind.{Kind}
-use Rattle.jl_base.specs.declared.kind.Kind.TheVariants.{OptionsDiffer, WrongRow, BadEntry, NoTerm, NoGraph, GraphOpen}
+use Rattle.jl_base.specs.declared.kind.Kind.TheVariants.{OptionsDiffer, WrongRow, NoGraph, GraphOpen}
 use Rattle.jl_rows.specs.declared.row.Table.{Table}
 use Rattle.jl_rows.specs.Written.{Ids, Term, StreamOptions, Row}
-use Rattle.jl_rows.specs.History.{History, slot, entry_id, ids_written, seen_after, seen_in, prefix_id, name_id, counted}
-use Rattle.jl_rows.specs.Values.{Slots, Position, value, value_in, iri_text, slots_of, last_term, open_graph, set_by, seen_before, is_unset}
+use Rattle.jl_rows.specs.History.{History, slot, entry_id, seen_after, seen_in}
+use Rattle.jl_rows.specs.Values.{Slots, Position, value, iri_text, slots_of, last_term, open_graph}
 use Rattle.jl_rows.specs.Decoder.{size_of, is_same, is_graphs, is_wrong_row, term_at, graph_around, stated, said_after, meaning}
 use Rattle.jl_state.specs.States.{State, table_of, entry_of, term_of, slots_in, opening}
-use Rattle.jl_state.specs.Steps.{Stepped, Looked, ids_after, text_at, looked, placed, id_after, entered, entry_step, graph_for, triple_step, quad_step, graph_start_step, graph_end_step, namespace_step, row_step, step}
+use Rattle.jl_state.specs.Steps.{Stepped, Looked, ids_after, text_at, looked, placed, id_after, graph_for, row_step, step}
 use Rattle.jl_state.specs.Stands.{last_ids, Stands, Answers, StepsFollow, OpeningStands}
-use Rattle.jl_state.proofs.Binds.{bind_assoc, bind_ext}
 use Rattle.jl_state.proofs.Looks.{last_ids-cons, looked_is, placed_is, set_or, behind}
 use Rattle.jl_state.proofs.Following.{each, each_table, same_slots, quiet_options, after_graph_end, after_graph_start, after_namespace, after_triple, after_quad, entry_id_is, after_entry}
 
@@ -64,28 +63,29 @@ module _ (o : StreamOptions) (s : State) (H : History) (h : Stands o s H) where
   graph_start_is : (g : Term) → Answers o (Row.GraphStart g) H (row_step o (Row.GraphStart g) s) (said_after o (Row.GraphStart g) H)
   graph_start_is g =
       let rest : Answers o (Row.GraphStart g) H (looked (slots_in s) s.ids g >>= λ v. Ok (record s { ids = v.1; open_graph = Some v.0 }, [])) (value (slots_of H) (seen_in H) g >>= λ _. Ok [])
-        = looks_on o (Row.GraphStart g) H _ (value (slots_of H) (seen_in H) g) _ _ _ (look g) (λ a e. (refl, after_graph_start o s H h g a e)) in
+      = looks_on o (Row.GraphStart g) H _ (value (slots_of H) (seen_in H) g) _ _ _ (look g) (λ a e. (refl, after_graph_start o s H h g a e)) in
       subst (λ (b : Option Value). Answers o (Row.GraphStart g) H (refuse_if (is_some b) GraphOpen >>= λ _. looked (slots_in s) s.ids g >>= λ v. Ok (record s { ids = v.1; open_graph = Some v.0 }, [])) (said_after o (Row.GraphStart g) H)) (sym h.graph)
-        (guarded o (Row.GraphStart g) H (is_some (open_graph H)) GraphOpen _ _ rest)
+      (guarded o (Row.GraphStart g) H (is_some (open_graph H)) GraphOpen _ _ rest)
 
   namespace_is : (name : List ℕ) (i : Option Ids) → Answers o (Row.Namespace name i) H (row_step o (Row.Namespace name i) s) (said_after o (Row.Namespace name i) H)
   namespace_is name None = refl
   namespace_is name (Some i) =
       let same : text_at (slots_in s) (ids_after i s.ids) ≡ iri_text (slots_of H) (i ∷ seen_in H)
-        = ap (λ (sl : Slots). text_at sl (ids_after i s.ids)) (same_slots h) ∙ ap (λ (x : Ids). text_at (slots_of H) x) (ap (ids_after i) h.ids ∙ sym (last_ids-cons i (seen_in H))) in
+      = ap (λ (sl : Slots). text_at sl (ids_after i s.ids)) (same_slots h) ∙ ap (λ (x : Ids). text_at (slots_of H) x) (ap (ids_after i) h.ids ∙ sym (last_ids-cons i (seen_in H))) in
       subst (λ (x : Result (List ℕ) Kind). Answers o (Row.Namespace name (Some i)) H (x >>= λ iri. Ok (record s { ids = ids_after i s.ids }, Item.Namespace name iri ∷ [])) (said_after o (Row.Namespace name (Some i)) H)) (sym same)
-        (goes_on o (Row.Namespace name (Some i)) H (iri_text (slots_of H) (i ∷ seen_in H)) _ _ (λ t e. (refl, after_namespace o s H h name i)))
+      (goes_on o (Row.Namespace name (Some i)) H (iri_text (slots_of H) (i ∷ seen_in H)) _ _ (λ t e. (refl, after_namespace o s H h name i)))
 
   entry_is : (t : Table) (id : ℕ) (text : List ℕ) → Answers o (Row.Entry t id text) H (row_step o (Row.Entry t id text) s) (said_after o (Row.Entry t id text) H)
   entry_is t id text = elim (cases_lt (id_after id (entry_of s t)) (length (table_of s t))) [
-      inl fits ↦
+    | inl fits ↦
         let fits' : nat_lt (size_of o t) (entry_id t (Row.Entry t id text ∷ H)) ≡ false = le-ltb _ _ (omega (arith, fits, entry_id_is o s H h t id text, h.sizes t)) in
         let there : nat_lt (id_after id (entry_of s t)) (length (table_of s t)) ≡ true = lt-ltb _ _ fits in
         rw (there, fits') (refl, after_entry o s H h t id text fits)
     | inr over ↦
         let over' : nat_lt (size_of o t) (entry_id t (Row.Entry t id text ∷ H)) ≡ true = lt-ltb _ _ (omega (arith, over, entry_id_is o s H h t id text, h.sizes t)) in
         let there : nat_lt (id_after id (entry_of s t)) (length (table_of s t)) ≡ false = le-ltb _ _ over in
-        rw (there, over') refl ]
+        rw (there, over') refl
+  ]
 
   triple_is : (x y z : Term) → Answers o (Row.Triple x y z) H (row_step o (Row.Triple x y z) s) (said_after o (Row.Triple x y z) H)
   triple_is x y z =
@@ -94,19 +94,19 @@ module _ (o : StreamOptions) (s : State) (H : History) (h : Stands o s H) where
       let two = seen_after y one in
       let three = seen_after z two in
       let rest : (g : Option Value) → Answers o r H
-            (placed (slots_in s) s.ids s.subject x >>= λ a. placed (slots_in s) a.1 s.predicate y >>= λ b. placed (slots_in s) b.1 s.object z >>= λ c.
-              Ok (record s { ids = c.1; subject = Some a.0; predicate = Some b.0; object = Some c.0 }, stated g a.0 b.0 c.0 ∷ []))
-            (term_at Position.Subject r H >>= λ a. term_at Position.Predicate r H >>= λ b. term_at Position.Object r H >>= λ c. Ok (stated g a b c ∷ []))
-        = λ g.
-          looks_on o r H _ (term_at Position.Subject r H) (last_ids one) _ _ (place s.subject (last_term Position.Subject H) (seen_in H) s.ids x (h.terms Position.Subject) h.ids) (λ a p.
-          looks_on o r H _ (term_at Position.Predicate r H) (last_ids two) _ _ (place s.predicate (last_term Position.Predicate H) one (last_ids one) y (h.terms Position.Predicate) refl) (λ b q.
-          looks_on o r H _ (term_at Position.Object r H) (last_ids three) _ _ (place s.object (last_term Position.Object H) two (last_ids two) z (h.terms Position.Object) refl) (λ c t.
-          (refl, after_triple o s H h x y z a b c p q t)))) in
+      (placed (slots_in s) s.ids s.subject x >>= λ a. placed (slots_in s) a.1 s.predicate y >>= λ b. placed (slots_in s) b.1 s.object z >>= λ c.
+      Ok (record s { ids = c.1; subject = Some a.0; predicate = Some b.0; object = Some c.0 }, stated g a.0 b.0 c.0 ∷ []))
+      (term_at Position.Subject r H >>= λ a. term_at Position.Predicate r H >>= λ b. term_at Position.Object r H >>= λ c. Ok (stated g a b c ∷ []))
+      = λ g.
+      looks_on o r H _ (term_at Position.Subject r H) (last_ids one) _ _ (place s.subject (last_term Position.Subject H) (seen_in H) s.ids x (h.terms Position.Subject) h.ids) (λ a p.
+      looks_on o r H _ (term_at Position.Predicate r H) (last_ids two) _ _ (place s.predicate (last_term Position.Predicate H) one (last_ids one) y (h.terms Position.Predicate) refl) (λ b q.
+      looks_on o r H _ (term_at Position.Object r H) (last_ids three) _ _ (place s.object (last_term Position.Object H) two (last_ids two) z (h.terms Position.Object) refl) (λ c t.
+      (refl, after_triple o s H h x y z a b c p q t)))) in
       subst (λ (v : Result (Option Value) Kind). Answers o r H
-            (v >>= λ g. placed (slots_in s) s.ids s.subject x >>= λ a. placed (slots_in s) a.1 s.predicate y >>= λ b. placed (slots_in s) b.1 s.object z >>= λ c.
-              Ok (record s { ids = c.1; subject = Some a.0; predicate = Some b.0; object = Some c.0 }, stated g a.0 b.0 c.0 ∷ []))
-            (said_after o r H)) (sym graph_is)
-        (goes_on o r H (graph_around o H) _ _ (λ g e. rest g))
+      (v >>= λ g. placed (slots_in s) s.ids s.subject x >>= λ a. placed (slots_in s) a.1 s.predicate y >>= λ b. placed (slots_in s) b.1 s.object z >>= λ c.
+      Ok (record s { ids = c.1; subject = Some a.0; predicate = Some b.0; object = Some c.0 }, stated g a.0 b.0 c.0 ∷ []))
+      (said_after o r H)) (sym graph_is)
+      (goes_on o r H (graph_around o H) _ _ (λ g e. rest g))
 
   quad_is : (x y z w : Term) → Answers o (Row.Quad x y z w) H (row_step o (Row.Quad x y z w) s) (said_after o (Row.Quad x y z w) H)
   quad_is x y z w =

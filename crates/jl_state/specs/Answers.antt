@@ -1,8 +1,6 @@
 -- What a step of the code answers, against what the definition says. Want of memory is free.
 use Rattle.std.specs.Prelude.{◌≡◌, ℕ, List, Result, Ok, Err}
-use Rattle.jl_base.specs.Terms.{Value}
 use Rattle.jl_base.specs.declared.kind.Kind.{Kind}
-use Rattle.jl_rows.specs.Written.{Ids}
 use Rattle.jl_state.specs.declared.known.Known.{Known}
 use Rattle.jl_state.specs.declared.tables.LastIds.{LastIds}
 use Rattle.jl_state.specs.declared.stop.Stop.{Stop}

@@ -2,7 +2,6 @@
 use Rattle.std.specs.Prelude.{◌≡◌, ℕ, ◌+◌, ◌<◌, max, ◌++◌, List}
 use Rattle.jl_state.specs.declared.known.KnownThree.{KnownThree}
 use Rattle.jl_base.specs.Terms as terms
-use Rattle.jl_state.specs.declared.extent.Extent.{Extent}
 use Rattle.jl_state.specs.declared.known.KnownTail.{KnownTail}
 use Rattle.jl_state.specs.declared.known.KnownTail.TheVariants as tails
 use Rattle.jl_state.specs.declared.known.Known.{Known, Iri, Bnode, Literal, Default, Triple', Row_of-KnownThree, end_of-KnownThree, more_of-KnownThree}

@@ -4,10 +4,8 @@ use Rattle.std.specs.Option.{option_map}
 use Rattle.jl_base.specs.Terms.{Value, Item}
 use Rattle.jl_base.specs.Results.{◌>>=◌}
 use Rattle.jl_base.specs.Spans.{text_of, IsInside}
-use Rattle.jl_base.specs.declared.place.Span.{Span}
 use Rattle.jl_base.specs.declared.kind.Kind.{Kind}
 use Rattle.jl_rows.specs.Written.{Ids, StreamOptions}
-use Rattle.jl_rows.specs.Seen.{options_seen}
 use Rattle.jl_rows.specs.Decoder.{most_entries, is_quads, is_graphs}
 use Rattle.jl_state.specs.declared.known.Known.{Known}
 use Rattle.jl_state.specs.declared.state.State.{State}

@@ -1,8 +1,7 @@
 -- What the code's state stands for: its texts in place of where they lie.
-use Rattle.std.specs.Prelude.{◌≡◌, ℕ, ◌+◌, ◌<◌, ◌≤◌, ◌^◌, List, map, length, slice_set, replicate, Option, Some, None, Result, Ok, Err}
+use Rattle.std.specs.Prelude.{◌≡◌, ℕ, ◌+◌, ◌<◌, ◌≤◌, List, map, length, slice_set, replicate, Some, None, Result, Ok, Err}
 use Rattle.jl_base.specs.declared.kind.Kind.{Kind}
 use Rattle.jl_base.specs.declared.kind.Kind.TheVariants.{BadEntry}
-use Rattle.jl_rows.specs.declared.row.Table.{Table}
 use Rattle.jl_rows.specs.declared.row.RawTerm.{RawTerm}
 use Rattle.jl_rows.specs.declared.row.RawTerm.TheVariants as raws
 use Rattle.jl_rows.specs.Written.{Ids}

@@ -1,6 +1,6 @@
 -- What a decoder keeps while it goes through the rows: the slots of the lookup tables, the last ids, the last term at
 -- each position and the open graph.
-use Rattle.std.specs.Prelude.{ℕ, ◌+◌, List, replicate, slice_index_or, slice_set, Option, None}
+use Rattle.std.specs.Prelude.{ℕ, ◌+◌, List, replicate, slice_index_or, Option, None}
 use Rattle.jl_base.specs.Terms.{Value}
 use Rattle.jl_rows.specs.declared.row.Table.{Table}
 use Rattle.jl_rows.specs.Written.{Ids, StreamOptions}

@@ -22,7 +22,9 @@ pub(crate) const UNFILLED: Extent = Extent {
 };
 
 const MARK: u32 = 1 << 30;
+
 const ESCAPED: u32 = 1;
+
 const XSD_STRING: u32 = 2;
 
 impl Extent {

@@ -6,18 +6,15 @@ ghost use Rattle.jl_state.specs.Stands.{StepsFollow, OpeningStands};
 /// the same fault, or the same items and a state that stands for the history with the row.
 pub fn steps_follow()
     ensures { StepsFollow }
-{
-}
+{}
 
 /// The opening state stands for no rows.
 pub fn opening_stands()
     ensures { OpeningStands }
-{
-}
+{}
 
 /// From a state that stands for a history, the run of steps over further rows gives what the decoder gives after that
 /// history: the same items, and the same first fault at its place.
 pub fn runs_decode()
     ensures { RunsDecode }
-{
-}
+{}

@@ -7,17 +7,19 @@
 
 mod extent;
 mod known;
+pub mod laws;
 mod look;
 mod state;
 mod step;
 mod stop;
 mod tables;
 mod tag;
-pub mod laws;
+#[cfg(test)]
+mod tests;
 
 pub use extent::Extent;
+pub use known::{Known, KnownTail, KnownThree};
 pub use state::State;
 pub use step::Stated;
 pub use stop::Stop;
 pub use tables::{LastIds, Tables};
-pub use known::{Known, KnownTail, KnownThree};

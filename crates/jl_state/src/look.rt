@@ -48,7 +48,13 @@ impl Lookup<'_> {
     }
 
     /// A term at a position: the row's own, or the last one there again. On a stop nothing is promised of both.
-    pub fn place(&self, alloc: Global, last: &mut LastIds, before: &mut Option<Known>, raw: Option<RawTerm>) -> Result<(), Stop>
+    pub fn place(
+        &self,
+        alloc: Global,
+        last: &mut LastIds,
+        before: &mut Option<Known>,
+        raw: Option<RawTerm>,
+    ) -> Result<(), Stop>
         requires tables { AreTables self.now.bytes.now self.now.tables.now }
         requires inside { rows.HasPosition self.now.bytes.now raw }
         requires before { HasMaybe self.now.bytes.now before.old }
@@ -56,7 +62,7 @@ impl Lookup<'_> {
         requires small { last.old.name ≤ decoder.most_entries }
         ensures exact { Places self.now.bytes.now
             (steps.placed (slots_seen self.now.bytes.now self.now.tables.now) (ids_seen last.old)
-                (maybe_value self.now.bytes.now before.old) (rows.position_seen self.now.bytes.now raw)) before.new last.new result }
+            (maybe_value self.now.bytes.now before.old) (rows.position_seen self.now.bytes.now raw)) before.new last.new result }
         ensures sound { OnOk result (HasMaybe self.now.bytes.now before.new) }
         ensures small { OnOk result (last.new.name ≤ decoder.most_entries) }
     {

@@ -8,22 +8,23 @@ ghost use Rattle.jl_rows.specs.Written as written;
 ghost use Rattle.jl_state.specs.Steps as steps;
 ghost use Rattle.jl_state.specs.Lawful.{state_seen, IsLawful, Steps, HasStated};
 
-
 use crate::state::enter;
-
 use crate::tables::Lookup;
 use crate::{Extent, State, Stop};
 use jl_base::{Kind, Span};
 use jl_rows::{RawIri, RawQuad, RawTerm, RawTriple, Row, Table};
 use std::alloc::Global;
 
-
 /// What a row states. A statement's terms are the state's last ones, with its open graph where the file has graphs.
 #[derive(Clone, Copy, Debug)]
 pub enum Stated {
     Nothing,
     Statement,
-    Namespace { name: Span, prefix: Extent, iri: Extent },
+    Namespace {
+        name: Span,
+        prefix: Extent,
+        iri: Extent,
+    },
 }
 
 impl State {
@@ -39,9 +40,27 @@ impl State {
         ensures stated { IfOk result (HasStated bytes.now) }
     {
         match table {
-            Table::Name => enter(&mut self.tables.names, &mut self.name_entry, bytes, id, text)?,
-            Table::Prefix => enter(&mut self.tables.prefixes, &mut self.prefix_entry, bytes, id, text)?,
-            Table::Datatype => enter(&mut self.tables.datatypes, &mut self.datatype_entry, bytes, id, text)?,
+            Table::Name => enter(
+                &mut self.tables.names,
+                &mut self.name_entry,
+                bytes,
+                id,
+                text,
+            )?,
+            Table::Prefix => enter(
+                &mut self.tables.prefixes,
+                &mut self.prefix_entry,
+                bytes,
+                id,
+                text,
+            )?,
+            Table::Datatype => enter(
+                &mut self.tables.datatypes,
+                &mut self.datatype_entry,
+                bytes,
+                id,
+                text,
+            )?,
         }
         Ok(Stated::Nothing)
     }
@@ -99,7 +118,12 @@ impl State {
         Ok(Stated::Statement)
     }
 
-    fn graph_start(&mut self, alloc: Global, bytes: &[u8], g: Option<RawTerm>) -> Result<Stated, Stop>
+    fn graph_start(
+        &mut self,
+        alloc: Global,
+        bytes: &[u8],
+        g: Option<RawTerm>,
+    ) -> Result<Stated, Stop>
         requires lawful { IsLawful bytes.now self.old }
         requires inside { rows.HasPosition bytes.now g }
         requires short { length bytes.now ≤ 2 ^ 30 }

@@ -9,9 +9,9 @@ ghost use Rattle.jl_state.specs.Steps as steps;
 ghost use Rattle.jl_state.specs.Extents.{text_in, slot_seen, IsSound, AreSound};
 ghost use Rattle.jl_state.specs.Seen.{slots_seen, ids_seen, AreTables, HasIri};
 
+use crate::Extent;
 use crate::known::KnownTail;
 use crate::tag::is_tag;
-use crate::Extent;
 use jl_base::Kind;
 use jl_rows::{RawIri, RawTail};
 

@@ -29,12 +29,12 @@ abbrev pub lines_of : Reading Item Fault → Goal
 lines_of said = record { parts = text said.items ∷ []; ending = ending_at 1 said.fault }
 
 -- the bytes of the first file
-abbrev pub first_file : List (List ℕ) → List ℕ
-first_file [] = []
-first_file (file ∷ files) = file
+abbrev pub first : List (List ℕ) → List ℕ
+first [] = []
+first (file ∷ files) = file
 
 abbrev pub goal_of : Command → List (List ℕ) → Goal
-goal_of Nquads files = lines_of (decode (first_file files))
+goal_of Nquads files = lines_of (decode (first files))
 
 abbrev pub goal : Job → List (List ℕ) → Goal
 goal job files = goal_of job.command files

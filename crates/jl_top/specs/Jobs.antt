@@ -10,7 +10,7 @@ use Rattle.jl_top.specs.declared.command.Job.{Job}
 abbrev pub is_file : List ℕ → Bool
 is_file word = not (length word == 0) && not (starts_with ◌==◌ word (codes "--"))
 
--- a command on one file, with what stands where no option says otherwise
+-- a command on one file, with no option
 abbrev pub plain : Command → Job
 plain command = record { command = command; workers = 4; run = 16; items = 0; per = 256; number = 0; out = None; first = 1 }
 

@@ -9,13 +9,13 @@
 mod command;
 mod gate;
 mod gather;
-mod program;
 mod run;
+mod top;
 mod words;
 
 pub use command::{Command, Job};
 pub use gate::Gate;
-pub use program::serve;
+pub use top::serve;
 pub use words::{files, job};
 
 #[cfg(test)]

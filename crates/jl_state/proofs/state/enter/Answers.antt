@@ -1,4 +1,4 @@
-use Rattle.std.proofs.Common.{sym, ap, ◌∙◌, arith, rules}
+use Rattle.std.proofs.Common.{arith}
 use Rattle.jl_state.proofs.Slots.{entered_is}
 use Rattle.jl_state.proofs.state.enter.Goals as goal
 

@@ -1,4 +1,4 @@
-use Rattle.std.proofs.Common.{arith, ◌≤◌, zero-le}
+use Rattle.std.proofs.Common.{arith}
 use Rattle.jl_state.proofs.Slots.{sound_in}
 use Rattle.jl_state.proofs.state.State.opening.Goals as goal
 

@@ -1,4 +1,3 @@
-use Rattle.std.proofs.Common.{◌≡◌, ◌∙◌, sym, ap, Some, Ok, Err}
 use Rattle.std.proofs.lemmas.Result.{err_from_is_err_and}
 use Rattle.jl_rows.specs.Seen.{options_seen, position_seen}
 use Rattle.jl_state.specs.Seen.{ids_seen}

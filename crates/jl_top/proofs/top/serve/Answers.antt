@@ -1,7 +1,7 @@
 use Rattle.std.proofs.Common.{Ok, Err}
 use Rattle.jl_base.proofs.SourceListLemmas.{length-ReadsEach}
 use Rattle.jl_top.proofs.Statuses.{exact, complete}
-use Rattle.jl_top.proofs.program.serve.Goals as goal
+use Rattle.jl_top.proofs.top.serve.Goals as goal
 
 pub returns-in-Ok-clause-number : goal.returns-in-Ok-clause-number
 returns-in-Ok-clause-number g c = (length-ReadsEach _ _ _ _ c.run.ensures.each).0

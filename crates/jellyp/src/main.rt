@@ -4,7 +4,10 @@
 //! that call with 5, and in both cases it has written nothing.
 #![tactic(auto)]
 
-ghost use Rattle.std.specs.Prelude.{◌≡◌, length, map, vec_len, IfOk};
+ghost use Rattle.std.specs.Prelude.{◌≡◌, length, map, vec_len, string_bytes, IfOk};
+ghost use Rattle.std.specs.IoError.{error_kind};
+ghost use Rattle.jellyp.specs.declared.Refusal.TheVariants.{NoMemory};
+ghost use Rattle.jellyp.specs.Refusals.{IsRefusedFor};
 ghost use Rattle.jl_base.specs.FileSources.{name_of};
 
 use jl_base::{ErrSink, FileShelf, FileSource, Text};
@@ -24,12 +27,16 @@ enum Refusal {
 }
 
 impl From<AllocError> for Refusal {
+    ghost from_gives = { λ _ refusal. refusal ≡ NoMemory };
+
     fn from(_error: AllocError) -> Refusal {
         Refusal::NoMemory
     }
 }
 
 impl From<io::Error> for Refusal {
+    ghost from_gives = { λ error refusal. IsRefusedFor (error_kind error) refusal };
+
     fn from(error: io::Error) -> Refusal {
         match error.kind() {
             io::ErrorKind::OutOfMemory => Refusal::NoMemory,
@@ -45,10 +52,12 @@ impl Gate for Open {
     fn enter(&self, _worker: u32, _run: u64) {}
 }
 
-// The arguments behind the program's name, as words.
-fn words(alloc: Global, arguments: env::Args) -> Result<Vec<Text>, AllocError> {
+// The arguments as words.
+fn words(alloc: Global, arguments: &[String]) -> Result<Vec<Text>, AllocError>
+    ensures { IfOk result (λ words. words.items ≡ map string_bytes arguments.now) }
+{
     let mut words = Vec::new(alloc);
-    for argument in arguments.skip(1) {
+    for argument in arguments {
         words.push(Text::from_bytes(alloc, argument.as_bytes())?)?;
     }
     Ok(words)
@@ -72,7 +81,8 @@ fn sources<'a, R: Files>(
 
 fn run<R: Runtime + AllocGlobal + Threads + Sync>(rt: &R) -> Result<u8, Refusal> {
     let alloc = rt.alloc();
-    let words = words(alloc, env::args(rt)?)?;
+    let arguments: Vec<String> = env::args(rt)?.skip(1).collect(alloc)?;
+    let words = words(alloc, &arguments)?;
     let mut sources = sources(rt, alloc, files(&words))?;
     let mut out = FileShelf::new(rt, alloc, None, false)?;
     let mut err = ErrSink::new(rt);

@@ -14,9 +14,10 @@ use Rattle.jl_rows.specs.Reading.{Part, Parts, part, number_32, text, term, noth
 use Rattle.jl_rows.specs.Rows.{triple, entry, row_taken_if_known, row_walk, row_on, row}
 use Rattle.jl_rows.specs.Files.{said_in_frame, in_front, rows_among, rows}
 use Rattle.jl_rows.specs.Seen.{term_seen, position_seen, row_seen}
-use Rattle.jl_rows.specs.Usual.{IsCounted, IsNumber, IsPosition, IsKind, with_part, ComesOn}
+use Rattle.jl_rows.specs.Usual.{IsCounted, IsNumber, IsPosition, IsRowOf, IsTableOf, IsKind, with_part, ComesOn}
 use Rattle.jl_rows.specs.declared.message.Message.{Message}
 use Rattle.jl_rows.specs.declared.message.Shape.{Shape}
+use Rattle.jl_rows.specs.declared.message.Sort.{Sort}
 use Rattle.jl_rows.specs.declared.row.RawTerm.{RawTerm}
 use Rattle.jl_rows.specs.declared.row.Row.{Row}
 use Rattle.jl_rows.specs.declared.row.Table.{Table}
@@ -108,6 +109,12 @@ pub entry_said : (bytes : List ℕ) (table : Table) (span : Span) (place end las
 entry_said bytes table span place end last n t whole behind ends number counted is utf8 inside =
     subst (λ (e : ℕ). entry table (slice_range bytes span.at e) ≡ Ok (written.Entry table (unwrap_or n 0) (text_of bytes t))) whole
     (entry_read bytes table span.at place end n t number counted is (omega arith) utf8 inside)
+
+-- an entry, by the table that its tag names
+pub entry_kind : (bytes : List ℕ) (tag : ℕ) (t : List ℕ) (table : Table) (r : Row) → IsTableOf tag table → IsRowOf bytes (entry table t) r → IsKind bytes tag t r
+entry_kind bytes tag t Table.Name r is said = record { number = 9; above = omega arith; below = omega arith; sort = Sort.Entry Table.Name; tag_is = is; sort_is = refl; said = said }
+entry_kind bytes tag t Table.Prefix r is said = record { number = 10; above = omega arith; below = omega arith; sort = Sort.Entry Table.Prefix; tag_is = is; sort_is = refl; said = said }
+entry_kind bytes tag t Table.Datatype r is said = record { number = 11; above = omega arith; below = omega arith; sort = Sort.Entry Table.Datatype; tag_is = is; sort_is = refl; said = said }
 
 -- a row's message of one field, which fills it
 pub message_said : (bytes : List ℕ) (span inner : Span) (end last : ℕ) (r : Row) → end ≡ span.at + span.len → last ≡ inner.at + inner.len → last ≡ end → IsCounted bytes span.at end inner → IsKind bytes (get_or bytes span.at 0) (text_of bytes inner) r

@@ -20,6 +20,7 @@ use Rattle.jl_rows.specs.declared.row.RawTerm.{RawTerm}
 use Rattle.jl_rows.specs.declared.row.RawTriple.{RawTriple}
 use Rattle.jl_rows.specs.declared.row.Row.{Row}
 use Rattle.jl_rows.specs.declared.row.Row.TheVariants as rows
+use Rattle.jl_rows.specs.declared.row.Table.{Table}
 
 -- a varint of at most three bytes in front, and the place after it
 pub record IsShort (bytes : List ℕ) (at : ℕ) (found : ℕ × ℕ) : Type 0 where
@@ -84,6 +85,12 @@ IsRowOf bytes said row = (said ≡ Ok (row_seen bytes row)) × HasRow bytes row
 -- the terms of a triple that its message says
 abbrev pub IsTriple : List ℕ → List ℕ → RawTriple → Type 0
 IsTriple bytes text t = IsRowOf bytes (triple text) (rows.Triple t)
+
+-- the table of an entry, by the tag of its field
+abbrev pub IsTableOf : ℕ → Table → Type 0
+IsTableOf tag Table.Name = tag ≡ 9 * 8 + 2
+IsTableOf tag Table.Prefix = tag ≡ 10 * 8 + 2
+IsTableOf tag Table.Datatype = tag ≡ 11 * 8 + 2
 
 -- what the field of a row says, by its tag
 pub record IsKind (bytes : List ℕ) (tag : ℕ) (text : List ℕ) (row : Row) : Type 0 where

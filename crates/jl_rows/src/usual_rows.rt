@@ -5,7 +5,7 @@ ghost use Rattle.jl_base.specs.Spans.{text_of};
 ghost use Rattle.jl_rows.specs.Reading as reading;
 ghost use Rattle.jl_rows.specs.Rows as rows;
 ghost use Rattle.jl_rows.specs.Seen.{row_seen, HasRow, IsNextRow, IsRowWithin};
-ghost use Rattle.jl_rows.specs.Usual.{IsKind, IsTriple, IsRowOf};
+ghost use Rattle.jl_rows.specs.Usual.{IsKind, IsTableOf, IsTriple, IsRowOf};
 
 use crate::row::{RawTriple, Row, Table};
 use crate::short_fields::{behind, counted, is_text, number};
@@ -37,27 +37,44 @@ const NO_TERMS: RawTriple = RawTriple {
     o: None,
 };
 
+#[inline(always)]
+fn is_triple(row: &Row) -> bool {
+    matches!(row, Row::Triple(_))
+}
+
 // A triple.
 #[inline(always)]
 fn triple(bytes: &[u8], span: Span, row: &mut Row) -> bool
     requires { span.at + span.len + 16 ≤ length bytes.now }
     ensures { IsTrue result → IsRowOf bytes.now (rows.triple (text_of bytes.now span)) row.new }
 {
-    if let Row::Triple(t) = row {
-        return terms(bytes, span, t);
+    if !is_triple(row) {
+        *row = Row::Triple(NO_TERMS);
     }
-    *row = Row::Triple(NO_TERMS);
-    if let Row::Triple(t) = row {
-        return terms(bytes, span, t);
+    match row {
+        Row::Triple(t) => terms(bytes, span, t),
+        _ => false,
     }
-    false
+}
+
+// The table of an entry, by its tag.
+#[inline(always)]
+fn table_of(tag: u8) -> Option<Table>
+    ensures { IfSome result (IsTableOf tag) }
+{
+    match tag {
+        0x4A => Some(Table::Name),
+        0x52 => Some(Table::Prefix),
+        0x5A => Some(Table::Datatype),
+        _ => None,
+    }
 }
 
 // An entry of a table, with a text.
 #[inline(always)]
-fn entry(bytes: &[u8], table: Table, span: Span, row: &mut Row) -> bool
+fn entry(bytes: &[u8], tag: u8, span: Span, row: &mut Row) -> bool
     requires { span.at + span.len + 16 ≤ length bytes.now }
-    ensures { IsTrue result → IsRowOf bytes.now (rows.entry table (text_of bytes.now span)) row.new }
+    ensures { IsTrue result → IsKind bytes.now tag (text_of bytes.now span) row.new }
 {
     let end = behind(span);
     let Some((id, place)) = number(bytes, span.at as usize, 1) else {
@@ -75,6 +92,9 @@ fn entry(bytes: &[u8], table: Table, span: Span, row: &mut Row) -> bool
     if !is_text(bytes, text) {
         return false;
     }
+    let Some(table) = table_of(tag) else {
+        return false;
+    };
     *row = Row::Entry {
         table,
         id: id.unwrap_or(0),
@@ -89,13 +109,10 @@ fn kind(bytes: &[u8], tag: u8, span: Span, row: &mut Row) -> bool
     requires { span.at + span.len + 16 ≤ length bytes.now }
     ensures { IsTrue result → IsKind bytes.now tag (text_of bytes.now span) row.new }
 {
-    match tag {
-        0x12 => triple(bytes, span, row),
-        0x4A => entry(bytes, Table::Name, span, row),
-        0x52 => entry(bytes, Table::Prefix, span, row),
-        0x5A => entry(bytes, Table::Datatype, span, row),
-        _ => false,
+    if tag == 0x12 {
+        return triple(bytes, span, row);
     }
+    entry(bytes, tag, span, row)
 }
 
 // A row's message.

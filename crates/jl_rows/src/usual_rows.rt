@@ -2,21 +2,21 @@
 //! a row is large to copy. None says nothing of what stands there, and then the row there is whatever was written.
 ghost use Rattle.std.specs.Prelude.{◌≡◌, ◌+◌, ◌≤◌, IfSome, IsTrue, Ok, Some, length, slice_index, false};
 ghost use Rattle.jl_base.specs.Spans.{text_of};
-ghost use Rattle.jl_rows.specs.Reading as reading;
 ghost use Rattle.jl_rows.specs.Rows as rows;
+ghost use Rattle.jl_rows.specs.declared.row.Row.TheVariants.{Quad, Triple};
 ghost use Rattle.jl_rows.specs.Seen.{row_seen, HasRow, IsNextRow, IsRowWithin};
-ghost use Rattle.jl_rows.specs.Usual.{IsKind, IsTableOf, IsTriple, IsRowOf};
+ghost use Rattle.jl_rows.specs.Usual.{IsKind, IsRowOf, IsTableOf};
 
-use crate::row::{RawTriple, Row, Table};
+use crate::row::{RawQuad, RawTriple, Row, Table};
 use crate::short_fields::{behind, counted, is_text, number};
-use crate::usual_terms::position;
+use crate::usual_positions::{graph, position};
 use jl_base::Span;
 
 // The terms of a triple.
 #[inline(always)]
-fn terms(bytes: &[u8], span: Span, t: &mut RawTriple) -> bool
+fn three_terms(bytes: &[u8], span: Span, t: &mut RawTriple) -> bool
     requires { span.at + span.len + 16 ≤ length bytes.now }
-    ensures { IsTrue result → IsTriple bytes.now (text_of bytes.now span) t.new }
+    ensures { IsTrue result → IsRowOf bytes.now (rows.triple (text_of bytes.now span)) (Triple t.new) }
 {
     let end = behind(span);
     let Some(place) = position(bytes, span.at as usize, end, 0, &mut t.s) else {
@@ -26,6 +26,28 @@ fn terms(bytes: &[u8], span: Span, t: &mut RawTriple) -> bool
         return false;
     };
     let Some(place) = position(bytes, place, end, 2, &mut t.o) else {
+        return false;
+    };
+    place == end
+}
+
+// The terms of a quad.
+#[inline(always)]
+fn four_terms(bytes: &[u8], span: Span, t: &mut RawQuad) -> bool
+    requires { span.at + span.len + 16 ≤ length bytes.now }
+    ensures { IsTrue result → IsRowOf bytes.now (rows.quad (text_of bytes.now span)) (Quad t.new) }
+{
+    let end = behind(span);
+    let Some(place) = position(bytes, span.at as usize, end, 0, &mut t.s) else {
+        return false;
+    };
+    let Some(place) = position(bytes, place, end, 1, &mut t.p) else {
+        return false;
+    };
+    let Some(place) = position(bytes, place, end, 2, &mut t.o) else {
+        return false;
+    };
+    let Some(place) = graph(bytes, place, end, &mut t.g) else {
         return false;
     };
     place == end
@@ -52,7 +74,34 @@ fn triple(bytes: &[u8], span: Span, row: &mut Row) -> bool
         *row = Row::Triple(NO_TERMS);
     }
     match row {
-        Row::Triple(t) => terms(bytes, span, t),
+        Row::Triple(t) => three_terms(bytes, span, t),
+        _ => false,
+    }
+}
+
+const NO_FOUR_TERMS: RawQuad = RawQuad {
+    s: None,
+    p: None,
+    o: None,
+    g: None,
+};
+
+#[inline(always)]
+fn is_quad(row: &Row) -> bool {
+    matches!(row, Row::Quad(_))
+}
+
+// A quad.
+#[inline(always)]
+fn quad(bytes: &[u8], span: Span, row: &mut Row) -> bool
+    requires { span.at + span.len + 16 ≤ length bytes.now }
+    ensures { IsTrue result → IsRowOf bytes.now (rows.quad (text_of bytes.now span)) row.new }
+{
+    if !is_quad(row) {
+        *row = Row::Quad(NO_FOUR_TERMS);
+    }
+    match row {
+        Row::Quad(t) => four_terms(bytes, span, t),
         _ => false,
     }
 }
@@ -111,6 +160,9 @@ fn kind(bytes: &[u8], tag: u8, span: Span, row: &mut Row) -> bool
 {
     if tag == 0x12 {
         return triple(bytes, span, row);
+    }
+    if tag == 0x1A {
+        return quad(bytes, span, row);
     }
     entry(bytes, tag, span, row)
 }

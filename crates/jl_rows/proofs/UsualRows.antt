@@ -11,12 +11,13 @@ use Rattle.jl_wire.specs.Fields.{Content, Field, fields}
 use Rattle.jl_rows.specs.Written as written
 use Rattle.jl_rows.specs.Messages.{sort_of}
 use Rattle.jl_rows.specs.Reading.{Part, Parts, part, number_32, text, term, nothing_said, read_on, content_said, most_nested, message}
-use Rattle.jl_rows.specs.Rows.{triple, entry, row_taken_if_known, row_walk, row_on, row}
+use Rattle.jl_rows.specs.Rows.{triple, quad, entry, row_taken_if_known, row_walk, row_on, row}
 use Rattle.jl_rows.specs.Files.{said_in_frame, in_front, rows_among, rows}
 use Rattle.jl_rows.specs.Seen.{term_seen, position_seen, row_seen}
-use Rattle.jl_rows.specs.Usual.{IsCounted, IsNumber, IsPosition, IsKind, with_part, ComesOn}
+use Rattle.jl_rows.specs.Usual.{IsCounted, IsNumber, IsPosition, IsRowOf, IsTableOf, IsKind, with_part, ComesOn}
 use Rattle.jl_rows.specs.declared.message.Message.{Message}
 use Rattle.jl_rows.specs.declared.message.Shape.{Shape}
+use Rattle.jl_rows.specs.declared.message.Sort.{Sort}
 use Rattle.jl_rows.specs.declared.row.RawTerm.{RawTerm}
 use Rattle.jl_rows.specs.declared.row.Row.{Row}
 use Rattle.jl_rows.specs.declared.row.Table.{Table}
@@ -62,7 +63,7 @@ triple_read bytes at second third end a b c s p o =
     let ps = with_part nothing_said 0 (said bytes a) in
     let qs = with_part ps 1 (said bytes b) in
     let read : read_on (content_said most_nested) Message.Triple nothing_said (slice_range bytes at end) ≡ Ok (with_terms bytes a b c) =
-    s.exact Message.Triple nothing_said tt refl ∙ p.exact Message.Triple ps tt (predicate_free bytes a) ∙ o.exact Message.Triple qs tt (object_free bytes a b)
+    s.exact Message.Triple nothing_said (omega arith) refl ∙ p.exact Message.Triple ps (omega arith) (predicate_free bytes a) ∙ o.exact Message.Triple qs (omega arith) (object_free bytes a b)
     ∙ read_end (content_said most_nested) Message.Triple bytes end end (with_terms bytes a b c) refl in
     ap (λ (r : Result Parts Kind). r >>= λ (ps : Parts). triple_of ps) read ∙ three_terms bytes a b c
 
@@ -71,6 +72,58 @@ pub triple_said : (bytes : List ℕ) (span : Span) (second third last end : ℕ)
 triple_said bytes span second third last end a b c whole ends s p o =
     let o_is : IsPosition bytes third end 2 (c, end) = subst (λ (n : ℕ). IsPosition bytes third end 2 (c, n)) ends o in
     subst (λ (n : ℕ). triple (slice_range bytes span.at n) ≡ Ok (written.Triple (position_seen bytes a) (position_seen bytes b) (position_seen bytes c))) whole (triple_read bytes span.at second third end a b c s p o_is)
+
+graph_free : (bytes : List ℕ) (a b c : Option RawTerm) → is_some (part (with_terms bytes a b c) 3) ≡ false
+graph_free bytes None None None = refl
+graph_free bytes None None (Some c) = refl
+graph_free bytes None (Some b) None = refl
+graph_free bytes None (Some b) (Some c) = refl
+graph_free bytes (Some a) None None = refl
+graph_free bytes (Some a) None (Some c) = refl
+graph_free bytes (Some a) (Some b) None = refl
+graph_free bytes (Some a) (Some b) (Some c) = refl
+
+abbrev quad_of : Parts → Result written.Row Kind
+quad_of ps = Ok (written.Quad (term (part ps 0)) (term (part ps 1)) (term (part ps 2)) (term (part ps 3)))
+
+four_terms : (bytes : List ℕ) (a b c d : Option RawTerm) → quad_of (with_part (with_terms bytes a b c) 3 (said bytes d)) ≡ Ok (written.Quad (position_seen bytes a) (position_seen bytes b) (position_seen bytes c) (position_seen bytes d))
+four_terms bytes None None None None = refl
+four_terms bytes None None None (Some d) = refl
+four_terms bytes None None (Some c) None = refl
+four_terms bytes None None (Some c) (Some d) = refl
+four_terms bytes None (Some b) None None = refl
+four_terms bytes None (Some b) None (Some d) = refl
+four_terms bytes None (Some b) (Some c) None = refl
+four_terms bytes None (Some b) (Some c) (Some d) = refl
+four_terms bytes (Some a) None None None = refl
+four_terms bytes (Some a) None None (Some d) = refl
+four_terms bytes (Some a) None (Some c) None = refl
+four_terms bytes (Some a) None (Some c) (Some d) = refl
+four_terms bytes (Some a) (Some b) None None = refl
+four_terms bytes (Some a) (Some b) None (Some d) = refl
+four_terms bytes (Some a) (Some b) (Some c) None = refl
+four_terms bytes (Some a) (Some b) (Some c) (Some d) = refl
+
+-- a quad is its terms, position by position
+quad_read : (bytes : List ℕ) (at second third fourth end : ℕ) (a b c d : Option RawTerm) → IsPosition bytes at end 0 (a, second) → IsPosition bytes second end 1 (b, third) → IsPosition bytes third end 2 (c, fourth) → IsPosition bytes fourth end 3 (d, end)
+    → quad (slice_range bytes at end) ≡ Ok (written.Quad (position_seen bytes a) (position_seen bytes b) (position_seen bytes c) (position_seen bytes d))
+unfolding quad message
+quad_read bytes at second third fourth end a b c d s p o g =
+    let ps = with_part nothing_said 0 (said bytes a) in
+    let qs = with_part ps 1 (said bytes b) in
+    let rs = with_part (with_terms bytes a b c) 3 (said bytes d) in
+    let read : read_on (content_said most_nested) Message.Quad nothing_said (slice_range bytes at end) ≡ Ok rs =
+    s.exact Message.Quad nothing_said (omega arith) refl ∙ p.exact Message.Quad ps (omega arith) (predicate_free bytes a) ∙ o.exact Message.Quad qs (omega arith) (object_free bytes a b)
+    ∙ g.exact Message.Quad (with_terms bytes a b c) (omega arith) (graph_free bytes a b c)
+    ∙ read_end (content_said most_nested) Message.Quad bytes end end rs refl in
+    ap (λ (r : Result Parts Kind). r >>= λ (ps : Parts). quad_of ps) read ∙ four_terms bytes a b c d
+
+pub quad_said : (bytes : List ℕ) (span : Span) (second third fourth last end : ℕ) (a b c d : Option RawTerm) → end ≡ span.at + span.len → last ≡ end → IsPosition bytes span.at end 0 (a, second) → IsPosition bytes second end 1 (b, third)
+    → IsPosition bytes third end 2 (c, fourth) → IsPosition bytes fourth end 3 (d, last) → quad (text_of bytes span) ≡ Ok (written.Quad (position_seen bytes a) (position_seen bytes b) (position_seen bytes c) (position_seen bytes d))
+quad_said bytes span second third fourth last end a b c d whole ends s p o g =
+    let g_is : IsPosition bytes fourth end 3 (d, end) = subst (λ (n : ℕ). IsPosition bytes fourth end 3 (d, n)) ends g in
+    subst (λ (n : ℕ). quad (slice_range bytes span.at n) ≡ Ok (written.Quad (position_seen bytes a) (position_seen bytes b) (position_seen bytes c) (position_seen bytes d))) whole
+    (quad_read bytes span.at second third fourth end a b c d s p o g_is)
 
 abbrev number_part : Option ℕ → Option Part
 number_part n = option_map (λ x. Part.Number x) n
@@ -108,6 +161,12 @@ pub entry_said : (bytes : List ℕ) (table : Table) (span : Span) (place end las
 entry_said bytes table span place end last n t whole behind ends number counted is utf8 inside =
     subst (λ (e : ℕ). entry table (slice_range bytes span.at e) ≡ Ok (written.Entry table (unwrap_or n 0) (text_of bytes t))) whole
     (entry_read bytes table span.at place end n t number counted is (omega arith) utf8 inside)
+
+-- an entry, by the table that its tag names
+pub entry_kind : (bytes : List ℕ) (tag : ℕ) (t : List ℕ) (table : Table) (r : Row) → IsTableOf tag table → IsRowOf bytes (entry table t) r → IsKind bytes tag t r
+entry_kind bytes tag t Table.Name r is said = record { number = 9; above = omega arith; below = omega arith; sort = Sort.Entry Table.Name; tag_is = is; sort_is = refl; said = said }
+entry_kind bytes tag t Table.Prefix r is said = record { number = 10; above = omega arith; below = omega arith; sort = Sort.Entry Table.Prefix; tag_is = is; sort_is = refl; said = said }
+entry_kind bytes tag t Table.Datatype r is said = record { number = 11; above = omega arith; below = omega arith; sort = Sort.Entry Table.Datatype; tag_is = is; sort_is = refl; said = said }
 
 -- a row's message of one field, which fills it
 pub message_said : (bytes : List ℕ) (span inner : Span) (end last : ℕ) (r : Row) → end ≡ span.at + span.len → last ≡ inner.at + inner.len → last ≡ end → IsCounted bytes span.at end inner → IsKind bytes (get_or bytes span.at 0) (text_of bytes inner) r

@@ -12,7 +12,7 @@ use Rattle.jl_rows.specs.Written.{Ids}
 use Rattle.jl_rows.specs.Messages.{known, known_as}
 use Rattle.jl_rows.specs.Reading.{Part, Parts, part, number_32, text, ending, is_wrong_wire, string, plain, nothing_said, read_on, iri, literal, content_said, most_nested}
 use Rattle.jl_rows.specs.Seen.{ids_seen, ending_seen, term_seen, HasTerm}
-use Rattle.jl_rows.specs.Usual.{IsCounted, IsNumber, IsEnding, IsStatement, IsPosition, with_part, ComesOn}
+use Rattle.jl_rows.specs.Usual.{IsCounted, IsNumber, IsEnding, with_part, ComesOn}
 use Rattle.jl_rows.specs.declared.message.Message.{Message}
 use Rattle.jl_rows.specs.declared.message.Shape.{Shape}
 use Rattle.jl_rows.specs.declared.row.RawIri.{RawIri}
@@ -116,69 +116,3 @@ literal_said bytes span lex end start tail whole behind counted is utf8 rest =
     let rest_is : IsEnding bytes (lex.at + lex.len) end tail = subst (λ (n : ℕ). IsEnding bytes n end tail) behind rest in
     subst (λ (n : ℕ). literal (slice_range bytes span.at n) ≡ Ok (written.Literal (text_of bytes lex) (ending_seen bytes tail))) whole
     (literal_read bytes span.at end lex tail counted is utf8 rest_is)
-
--- the known fields of a position
-known_iri : (m : Message) (group : ℕ) → IsStatement m → group < 3 → known_as m (group * 4 + 1) ≡ Some (known (group * 4 + 1) Shape.Iri group)
-known_iri Message.Triple zero s lt = refl
-known_iri Message.Triple (suc zero) s lt = refl
-known_iri Message.Triple (suc (suc zero)) s lt = refl
-known_iri Message.Triple (suc (suc (suc group))) s lt = absurd (omega arith)
-known_iri Message.Quad zero s lt = refl
-known_iri Message.Quad (suc zero) s lt = refl
-known_iri Message.Quad (suc (suc zero)) s lt = refl
-known_iri Message.Quad (suc (suc (suc group))) s lt = absurd (omega arith)
-known_iri m group s lt = absurd s
-
-known_label : (m : Message) (group : ℕ) → IsStatement m → group < 3 → known_as m (group * 4 + 2) ≡ Some (known (group * 4 + 2) Shape.Label group)
-known_label Message.Triple zero s lt = refl
-known_label Message.Triple (suc zero) s lt = refl
-known_label Message.Triple (suc (suc zero)) s lt = refl
-known_label Message.Triple (suc (suc (suc group))) s lt = absurd (omega arith)
-known_label Message.Quad zero s lt = refl
-known_label Message.Quad (suc zero) s lt = refl
-known_label Message.Quad (suc (suc zero)) s lt = refl
-known_label Message.Quad (suc (suc (suc group))) s lt = absurd (omega arith)
-known_label m group s lt = absurd s
-
-known_literal : (m : Message) (group : ℕ) → IsStatement m → group < 3 → known_as m (group * 4 + 3) ≡ Some (known (group * 4 + 3) Shape.Literal group)
-known_literal Message.Triple zero s lt = refl
-known_literal Message.Triple (suc zero) s lt = refl
-known_literal Message.Triple (suc (suc zero)) s lt = refl
-known_literal Message.Triple (suc (suc (suc group))) s lt = absurd (omega arith)
-known_literal Message.Quad zero s lt = refl
-known_literal Message.Quad (suc zero) s lt = refl
-known_literal Message.Quad (suc (suc zero)) s lt = refl
-known_literal Message.Quad (suc (suc (suc group))) s lt = absurd (omega arith)
-known_literal m group s lt = absurd s
-
--- a term at a position
-module _ (bytes : List ℕ) (at end group next : ℕ) (span : Span) where
-  term_there : (kind : ℕ) (shape : Shape) (t : RawTerm) → IsCounted bytes at end span → next ≡ span.at + span.len → 0 < kind → kind < 4 → group < 3 → get_or bytes at 0 ≡ (group * 4 + kind) * 8 + 2
-      → ((m : Message) → IsStatement m → known_as m (group * 4 + kind) ≡ Some (known (group * 4 + kind) shape group)) → is_wrong_wire shape (Content.Bytes (text_of bytes span)) ≡ false
-      → content_said most_nested shape (Content.Bytes (text_of bytes span)) ≡ Ok (Part.Said (term_seen bytes t)) → HasTerm bytes t → IsPosition bytes at end group (Some t, next)
-  term_there kind shape t counted behind some few small is knows wire said inside = record {
-    after = omega (arith, counted.after);
-    before = omega (arith, counted.before);
-    inside = inside;
-    exact = λ m ps statement free.
-        subst (λ (n : ℕ). ComesOn (content_said most_nested) m bytes at n end ps (slice_set ps group (Some (Part.Said (term_seen bytes t))))) (sym behind)
-        (counted_said (content_said most_nested) m bytes at end (group * 4 + kind) group shape span (Part.Said (term_seen bytes t)) ps counted (omega arith) (omega arith) is (knows m statement) wire free said);
-  }
-
-  pub iri_there : (i : RawIri) → IsCounted bytes at end span → next ≡ span.at + span.len → group < 3 → get_or bytes at 0 ≡ group * 32 + 10 → iri (text_of bytes span) ≡ Ok (ids_seen i) → IsPosition bytes at end group (Some (terms.Iri i), next)
-  unfolding content_said
-  iri_there i counted behind small is said =
-      let content : content_said most_nested Shape.Iri (Content.Bytes (text_of bytes span)) ≡ Ok (Part.Said (written.Iri (ids_seen i))) = rw said refl in
-      term_there 1 Shape.Iri (terms.Iri i) counted behind (omega arith) (omega arith) small (omega arith) (λ m s. known_iri m group s small) refl content tt
-
-  pub label_there : IsCounted bytes at end span → next ≡ span.at + span.len → group < 3 → get_or bytes at 0 ≡ group * 32 + 18 → true ≡ is_utf8 (text_of bytes span) → end ≤ length bytes → IsPosition bytes at end group (Some (terms.Bnode span), next)
-  unfolding content_said
-  label_there counted behind small is utf8 inside =
-      let content : content_said most_nested Shape.Label (Content.Bytes (text_of bytes span)) ≡ Ok (Part.Said (written.Bnode (text_of bytes span))) = rw (string_said (text_of bytes span) utf8) refl in
-      term_there 2 Shape.Label (terms.Bnode span) counted behind (omega arith) (omega arith) small (omega arith) (λ m s. known_label m group s small) refl content (omega (arith, counted.before))
-
-  pub literal_there : (t : RawTerm) → IsCounted bytes at end span → next ≡ span.at + span.len → group < 3 → get_or bytes at 0 ≡ group * 32 + 26 → literal (text_of bytes span) ≡ Ok (term_seen bytes t) → HasTerm bytes t → IsPosition bytes at end group (Some t, next)
-  unfolding content_said
-  literal_there t counted behind small is said inside =
-      let content : content_said most_nested Shape.Literal (Content.Bytes (text_of bytes span)) ≡ Ok (Part.Said (term_seen bytes t)) = rw said refl in
-      term_there 3 Shape.Literal t counted behind (omega arith) (omega arith) small (omega arith) (λ m s. known_literal m group s small) refl content inside

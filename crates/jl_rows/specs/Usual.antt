@@ -10,16 +10,15 @@ use Rattle.jl_wire.specs.Fields.{Content, field}
 use Rattle.jl_rows.specs.Messages.{known, known_as, sort_of}
 use Rattle.jl_rows.specs.Reading.{Part, Parts, part, ending, plain, read_on, content_said, most_nested}
 use Rattle.jl_rows.specs.Written as written
-use Rattle.jl_rows.specs.Rows.{said_by, triple}
+use Rattle.jl_rows.specs.Rows.{said_by}
 use Rattle.jl_rows.specs.Seen.{ending_seen, term_seen, row_seen, HasTail, HasPosition, HasRow}
 use Rattle.jl_rows.specs.declared.message.Message.{Message}
 use Rattle.jl_rows.specs.declared.message.Shape.{Shape}
 use Rattle.jl_rows.specs.declared.message.Sort.{Sort}
 use Rattle.jl_rows.specs.declared.row.RawTail.{RawTail}
 use Rattle.jl_rows.specs.declared.row.RawTerm.{RawTerm}
-use Rattle.jl_rows.specs.declared.row.RawTriple.{RawTriple}
 use Rattle.jl_rows.specs.declared.row.Row.{Row}
-use Rattle.jl_rows.specs.declared.row.Row.TheVariants as rows
+use Rattle.jl_rows.specs.declared.row.Table.{Table}
 
 -- a varint of at most three bytes in front, and the place after it
 pub record IsShort (bytes : List ℕ) (at : ℕ) (found : ℕ × ℕ) : Type 0 where
@@ -63,27 +62,29 @@ pub record IsEnding (bytes : List ℕ) (at end : ℕ) (tail : RawTail) : Type 0 
   pub inside : HasTail bytes tail
   pub exact : (ps : Parts) → is_some (part ps 1) ≡ false → ComesOn plain Message.Literal bytes at end end ps (with_part ps 1 said)
 
--- the messages that have a subject, a predicate and an object
-abbrev pub IsStatement : Message → Type 0
-IsStatement Message.Triple = Unit {0}
-IsStatement Message.Quad = Unit {0}
-IsStatement _ = ⊥
+-- the messages that have a position: a subject, a predicate and an object, and a quad's graph
+abbrev pub Stands : Message → ℕ → Type 0
+Stands Message.Triple group = group < 3
+Stands Message.Quad group = group < 4
+Stands _ group = ⊥
 
 -- the term in front, where one stands there at this position, and the place after it
 pub record IsPosition (bytes : List ℕ) (at end group : ℕ) (found : Option RawTerm × ℕ) : Type 0 where
   pub after : at ≤ found.1
   pub before : found.1 ≤ end
   pub inside : HasPosition bytes found.0
-  pub exact : (m : Message) (ps : Parts) → IsStatement m → is_some (part ps group) ≡ false
+  pub exact : (m : Message) (ps : Parts) → Stands m group → is_some (part ps group) ≡ false
       → ComesOn (content_said most_nested) m bytes at found.1 end ps (with_part ps group (option_map (λ t. Part.Said (term_seen bytes t)) found.0))
 
 -- a row that its message says
 abbrev pub IsRowOf : List ℕ → Result written.Row Kind → Row → Type 0
 IsRowOf bytes said row = (said ≡ Ok (row_seen bytes row)) × HasRow bytes row
 
--- the terms of a triple that its message says
-abbrev pub IsTriple : List ℕ → List ℕ → RawTriple → Type 0
-IsTriple bytes text t = IsRowOf bytes (triple text) (rows.Triple t)
+-- the table of an entry, by the tag of its field
+abbrev pub IsTableOf : ℕ → Table → Type 0
+IsTableOf tag Table.Name = tag ≡ 9 * 8 + 2
+IsTableOf tag Table.Prefix = tag ≡ 10 * 8 + 2
+IsTableOf tag Table.Datatype = tag ≡ 11 * 8 + 2
 
 -- what the field of a row says, by its tag
 pub record IsKind (bytes : List ℕ) (tag : ℕ) (text : List ℕ) (row : Row) : Type 0 where

@@ -19,6 +19,7 @@ mod short_fields;
 #[cfg(test)]
 mod tests;
 mod triple_terms;
+mod usual_positions;
 mod usual_rows;
 mod usual_terms;
 

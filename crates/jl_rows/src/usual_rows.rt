@@ -2,21 +2,21 @@
 //! a row is large to copy. None says nothing of what stands there, and then the row there is whatever was written.
 ghost use Rattle.std.specs.Prelude.{◌≡◌, ◌+◌, ◌≤◌, IfSome, IsTrue, Ok, Some, length, slice_index, false};
 ghost use Rattle.jl_base.specs.Spans.{text_of};
-ghost use Rattle.jl_rows.specs.Reading as reading;
 ghost use Rattle.jl_rows.specs.Rows as rows;
+ghost use Rattle.jl_rows.specs.declared.row.Row.TheVariants.{Quad, Triple};
 ghost use Rattle.jl_rows.specs.Seen.{row_seen, HasRow, IsNextRow, IsRowWithin};
-ghost use Rattle.jl_rows.specs.Usual.{IsKind, IsTriple, IsRowOf};
+ghost use Rattle.jl_rows.specs.Usual.{IsKind, IsRowOf, IsTableOf};
 
-use crate::row::{RawTriple, Row, Table};
+use crate::row::{RawQuad, RawTriple, Row, Table};
 use crate::short_fields::{behind, counted, is_text, number};
-use crate::usual_terms::position;
+use crate::usual_positions::{graph, position};
 use jl_base::Span;
 
 // The terms of a triple.
 #[inline(always)]
-fn terms(bytes: &[u8], span: Span, t: &mut RawTriple) -> bool
+fn three_terms(bytes: &[u8], span: Span, t: &mut RawTriple) -> bool
     requires { span.at + span.len + 16 ≤ length bytes.now }
-    ensures { IsTrue result → IsTriple bytes.now (text_of bytes.now span) t.new }
+    ensures { IsTrue result → IsRowOf bytes.now (rows.triple (text_of bytes.now span)) (Triple t.new) }
 {
     let end = behind(span);
     let Some(place) = position(bytes, span.at as usize, end, 0, &mut t.s) else {
@@ -31,11 +31,38 @@ fn terms(bytes: &[u8], span: Span, t: &mut RawTriple) -> bool
     place == end
 }
 
+// The terms of a quad.
+#[inline(always)]
+fn four_terms(bytes: &[u8], span: Span, t: &mut RawQuad) -> bool
+    requires { span.at + span.len + 16 ≤ length bytes.now }
+    ensures { IsTrue result → IsRowOf bytes.now (rows.quad (text_of bytes.now span)) (Quad t.new) }
+{
+    let end = behind(span);
+    let Some(place) = position(bytes, span.at as usize, end, 0, &mut t.s) else {
+        return false;
+    };
+    let Some(place) = position(bytes, place, end, 1, &mut t.p) else {
+        return false;
+    };
+    let Some(place) = position(bytes, place, end, 2, &mut t.o) else {
+        return false;
+    };
+    let Some(place) = graph(bytes, place, end, &mut t.g) else {
+        return false;
+    };
+    place == end
+}
+
 const NO_TERMS: RawTriple = RawTriple {
     s: None,
     p: None,
     o: None,
 };
+
+#[inline(always)]
+fn is_triple(row: &Row) -> bool {
+    matches!(row, Row::Triple(_))
+}
 
 // A triple.
 #[inline(always)]
@@ -43,21 +70,60 @@ fn triple(bytes: &[u8], span: Span, row: &mut Row) -> bool
     requires { span.at + span.len + 16 ≤ length bytes.now }
     ensures { IsTrue result → IsRowOf bytes.now (rows.triple (text_of bytes.now span)) row.new }
 {
-    if let Row::Triple(t) = row {
-        return terms(bytes, span, t);
+    if !is_triple(row) {
+        *row = Row::Triple(NO_TERMS);
     }
-    *row = Row::Triple(NO_TERMS);
-    if let Row::Triple(t) = row {
-        return terms(bytes, span, t);
+    match row {
+        Row::Triple(t) => three_terms(bytes, span, t),
+        _ => false,
     }
-    false
+}
+
+const NO_FOUR_TERMS: RawQuad = RawQuad {
+    s: None,
+    p: None,
+    o: None,
+    g: None,
+};
+
+#[inline(always)]
+fn is_quad(row: &Row) -> bool {
+    matches!(row, Row::Quad(_))
+}
+
+// A quad.
+#[inline(always)]
+fn quad(bytes: &[u8], span: Span, row: &mut Row) -> bool
+    requires { span.at + span.len + 16 ≤ length bytes.now }
+    ensures { IsTrue result → IsRowOf bytes.now (rows.quad (text_of bytes.now span)) row.new }
+{
+    if !is_quad(row) {
+        *row = Row::Quad(NO_FOUR_TERMS);
+    }
+    match row {
+        Row::Quad(t) => four_terms(bytes, span, t),
+        _ => false,
+    }
+}
+
+// The table of an entry, by its tag.
+#[inline(always)]
+fn table_of(tag: u8) -> Option<Table>
+    ensures { IfSome result (IsTableOf tag) }
+{
+    match tag {
+        0x4A => Some(Table::Name),
+        0x52 => Some(Table::Prefix),
+        0x5A => Some(Table::Datatype),
+        _ => None,
+    }
 }
 
 // An entry of a table, with a text.
 #[inline(always)]
-fn entry(bytes: &[u8], table: Table, span: Span, row: &mut Row) -> bool
+fn entry(bytes: &[u8], tag: u8, span: Span, row: &mut Row) -> bool
     requires { span.at + span.len + 16 ≤ length bytes.now }
-    ensures { IsTrue result → IsRowOf bytes.now (rows.entry table (text_of bytes.now span)) row.new }
+    ensures { IsTrue result → IsKind bytes.now tag (text_of bytes.now span) row.new }
 {
     let end = behind(span);
     let Some((id, place)) = number(bytes, span.at as usize, 1) else {
@@ -75,6 +141,9 @@ fn entry(bytes: &[u8], table: Table, span: Span, row: &mut Row) -> bool
     if !is_text(bytes, text) {
         return false;
     }
+    let Some(table) = table_of(tag) else {
+        return false;
+    };
     *row = Row::Entry {
         table,
         id: id.unwrap_or(0),
@@ -89,13 +158,13 @@ fn kind(bytes: &[u8], tag: u8, span: Span, row: &mut Row) -> bool
     requires { span.at + span.len + 16 ≤ length bytes.now }
     ensures { IsTrue result → IsKind bytes.now tag (text_of bytes.now span) row.new }
 {
-    match tag {
-        0x12 => triple(bytes, span, row),
-        0x4A => entry(bytes, Table::Name, span, row),
-        0x52 => entry(bytes, Table::Prefix, span, row),
-        0x5A => entry(bytes, Table::Datatype, span, row),
-        _ => false,
+    if tag == 0x12 {
+        return triple(bytes, span, row);
     }
+    if tag == 0x1A {
+        return quad(bytes, span, row);
+    }
+    entry(bytes, tag, span, row)
 }
 
 // A row's message.

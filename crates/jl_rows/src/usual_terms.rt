@@ -3,7 +3,7 @@ ghost use Rattle.std.specs.Prelude.{◌≡◌, ◌+◌, ◌<◌, ◌≤◌, IfSo
 ghost use Rattle.jl_base.specs.Spans.{text_of};
 ghost use Rattle.jl_rows.specs.Reading as reading;
 ghost use Rattle.jl_rows.specs.Seen.{ids_seen, term_seen, HasTerm};
-ghost use Rattle.jl_rows.specs.Usual.{IsEnding, IsPosition};
+ghost use Rattle.jl_rows.specs.Usual.{IsEnding};
 
 use crate::row::{RawIri, RawTail, RawTerm};
 use crate::short_fields::{behind, counted, is_text, number};
@@ -11,7 +11,7 @@ use jl_base::Span;
 
 // An IRI by its ids.
 #[inline(always)]
-fn iri(bytes: &[u8], span: Span) -> Option<RawIri>
+pub fn iri(bytes: &[u8], span: Span) -> Option<RawIri>
     requires { span.at + span.len + 8 ≤ length bytes.now }
     ensures { IfSome result (λ i. reading.iri (text_of bytes.now span) ≡ Ok (ids_seen i)) }
 {
@@ -79,7 +79,7 @@ fn ending(bytes: &[u8], at: usize, end: usize) -> Option<RawTail>
 
 // A literal with a lexical form.
 #[inline(always)]
-fn literal(bytes: &[u8], span: Span) -> Option<RawTerm>
+pub fn literal(bytes: &[u8], span: Span) -> Option<RawTerm>
     requires { span.at + span.len + 8 ≤ length bytes.now }
     ensures exact { IfSome result (λ t. reading.literal (text_of bytes.now span) ≡ Ok (term_seen bytes.now t)) }
     ensures inside { IfSome result (HasTerm bytes.now) }
@@ -95,40 +95,4 @@ fn literal(bytes: &[u8], span: Span) -> Option<RawTerm>
     }
     let tail = ending(bytes, behind(lex), end)?;
     Some(RawTerm::Literal { lex, tail })
-}
-
-// Puts the term at a position of a statement, where one stands in front, and answers the place after it.
-#[inline(always)]
-pub fn position(bytes: &[u8], at: usize, end: usize, group: u8, term: &mut Option<RawTerm>) -> Option<usize>
-    requires inside { end + 16 ≤ length bytes.now }
-    requires start { at ≤ end }
-    requires group { group < 3 }
-    ensures { IfSome result (λ next. IsPosition bytes.now at end group (term.new, next)) }
-{
-    let first = group * 32 + 10;
-    if at == end {
-        *term = None;
-        return Some(at);
-    }
-    let tag = bytes[at];
-    if tag == first {
-        let span = counted(bytes, at, end)?;
-        *term = Some(RawTerm::Iri(iri(bytes, span)?));
-        return Some(behind(span));
-    }
-    if tag == first + 8 {
-        let span = counted(bytes, at, end)?;
-        if !is_text(bytes, span) {
-            return None;
-        }
-        *term = Some(RawTerm::Bnode(span));
-        return Some(behind(span));
-    }
-    if tag == first + 16 {
-        let span = counted(bytes, at, end)?;
-        *term = Some(literal(bytes, span)?);
-        return Some(behind(span));
-    }
-    *term = None;
-    Some(at)
 }

@@ -9,7 +9,7 @@ use std::simd::prelude::*;
 
 /// Whether the bytes of a span are UTF-8: BadUtf8 where they aren't. A short text without a byte above 127 is found by
 /// one look at sixteen bytes.
-#[inline]
+#[inline(always)]
 pub fn utf8(bytes: &[u8], span: Span) -> Result<(), Kind>
     requires { IsInside bytes.now span }
     ensures exact { is_ok result ≡ is_utf8 (text_of bytes.now span) }

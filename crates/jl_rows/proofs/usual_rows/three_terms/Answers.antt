@@ -1,6 +1,6 @@
 use Rattle.std.proofs.lemmas.Bool.{eqb-true}
 use Rattle.jl_rows.proofs.UsualRows.{triple_said}
-use Rattle.jl_rows.proofs.usual_rows.terms.Goals as goal
+use Rattle.jl_rows.proofs.usual_rows.three_terms.Goals as goal
 
 pub returns : goal.returns
 returns c = λ last. (

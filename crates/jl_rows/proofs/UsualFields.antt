@@ -1,20 +1,18 @@
 -- Fields of usual shape: a tag of one byte, and a short length or number.
-use Rattle.std.proofs.Common.{◌≡◌, ℕ, ◌+◌, ◌-◌, ◌*◌, ◌/◌, ◌%◌, ◌^◌, ◌<◌, ◌≤◌, ◌⊎◌, Bool, true, false, List, length, get_or, slice_range, slice_set, Some, None, is_some, Result, Ok, nat_lt, refl, sym, ap, ◌∙◌, inl, inr, arith}
+use Rattle.std.proofs.Common.{◌≡◌, ℕ, ◌+◌, ◌-◌, ◌*◌, ◌/◌, ◌%◌, ◌^◌, ◌<◌, ◌≤◌, ◌⊎◌, false, List, length, get_or, slice_range, slice_set, Some, is_some, Result, Ok, refl, sym, ap, ◌∙◌, inl, inr, arith}
 use Rattle.std.proofs.lemmas.Bool.{le-ltb, ne_eqb}
-use Rattle.std.specs.Option.{option_map}
-use Rattle.jl_base.specs.Results.{◌>>=◌, Reading, with_front, refuse_if}
+use Rattle.jl_base.specs.Results.{◌>>=◌, with_front}
 use Rattle.jl_base.specs.Spans.{text_of}
 use Rattle.jl_base.specs.declared.kind.Kind.{Kind}
 use Rattle.jl_base.specs.declared.place.Span.{Span}
-use Rattle.jl_wire.specs.Varint.{varint}
-use Rattle.jl_wire.specs.Fields.{Content, Field, is_bad_tag, counted_bytes, content_of, field, fields}
+use Rattle.jl_wire.specs.Fields.{Content, is_bad_tag, content_of, field, fields}
 use Rattle.jl_wire.proofs.Ranges.{drop-range}
 use Rattle.jl_wire.proofs.FieldLaws.{fields_next}
 use Rattle.jl_wire.proofs.FieldSteps.{counted, whole_field}
 use Rattle.jl_wire.proofs.VarintSteps.{one_byte}
 use Rattle.jl_rows.specs.Messages.{known, known_as}
-use Rattle.jl_rows.specs.Reading.{Part, Parts, part, is_wrong_wire, taken, taken_if_known, walk, read_on}
-use Rattle.jl_rows.specs.Usual.{IsShort, IsCounted, IsNumber, with_part, Says, ComesOn}
+use Rattle.jl_rows.specs.Reading.{Part, Parts, part, is_wrong_wire, taken_if_known, walk, read_on}
+use Rattle.jl_rows.specs.Usual.{IsShort, IsCounted, IsNumber, Says, ComesOn}
 use Rattle.jl_rows.specs.declared.message.Message.{Message}
 use Rattle.jl_rows.specs.declared.message.Shape.{Shape}
 use Rattle.jl_rows.proofs.Walking.{walked}

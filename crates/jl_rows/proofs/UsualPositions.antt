@@ -1,23 +1,18 @@
 -- The positions of a statement of usual shape.
-use Rattle.std.proofs.Common.{◌≡◌, ℕ, zero, suc, ◌+◌, ◌-◌, ◌*◌, ◌%◌, ◌^◌, ◌<◌, ◌≤◌, List, length, get_or, slice_range, slice_set, true, false, IfSome, Option, Some, None, is_some, unwrap_or, Result, Ok, refl, sym, ap, ◌∙◌, subst, arith}
-use Rattle.std.specs.Option.{option_map}
+use Rattle.std.proofs.Common.{◌≡◌, ℕ, zero, suc, ◌+◌, ◌*◌, ◌<◌, ◌≤◌, List, length, get_or, slice_set, true, false, Some, Ok, refl, sym, subst, arith}
 use Rattle.std.specs.Str.{is_utf8}
-use Rattle.jl_base.specs.Results.{◌>>=◌}
 use Rattle.jl_base.specs.Spans.{text_of}
-use Rattle.jl_base.specs.declared.kind.Kind.{Kind}
 use Rattle.jl_base.specs.declared.place.Span.{Span}
 use Rattle.jl_wire.specs.Fields.{Content}
 use Rattle.jl_rows.specs.Written as written
 use Rattle.jl_rows.specs.Written.{Ids}
 use Rattle.jl_rows.specs.Messages.{known, known_as}
-use Rattle.jl_rows.specs.Reading.{Part, Parts, part, number_32, text, ending, is_wrong_wire, string, plain, nothing_said, read_on, iri, literal, empty, content_said, most_nested}
-use Rattle.jl_rows.specs.Seen.{ids_seen, ending_seen, term_seen, HasTerm}
-use Rattle.jl_rows.specs.Usual.{IsCounted, IsNumber, IsEnding, Stands, IsPosition, with_part, ComesOn}
+use Rattle.jl_rows.specs.Reading.{Part, is_wrong_wire, plain, nothing_said, read_on, iri, literal, empty, content_said, most_nested}
+use Rattle.jl_rows.specs.Seen.{ids_seen, term_seen, HasTerm}
+use Rattle.jl_rows.specs.Usual.{IsCounted, Stands, IsPosition, ComesOn}
 use Rattle.jl_rows.specs.declared.message.Message.{Message}
 use Rattle.jl_rows.specs.declared.message.Shape.{Shape}
 use Rattle.jl_rows.specs.declared.row.RawIri.{RawIri}
-use Rattle.jl_rows.specs.declared.row.RawTail.{RawTail}
-use Rattle.jl_rows.specs.declared.row.RawTail.TheVariants as tails
 use Rattle.jl_rows.specs.declared.row.RawTerm.{RawTerm}
 use Rattle.jl_rows.specs.declared.row.RawTerm.TheVariants as terms
 use Rattle.jl_rows.proofs.Walking.{read_end}

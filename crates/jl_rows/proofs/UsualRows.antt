@@ -14,7 +14,7 @@ use Rattle.jl_rows.specs.Reading.{Part, Parts, part, number_32, text, term, noth
 use Rattle.jl_rows.specs.Rows.{triple, quad, entry, row_taken_if_known, row_walk, row_on, row}
 use Rattle.jl_rows.specs.Files.{said_in_frame, in_front, rows_among, rows}
 use Rattle.jl_rows.specs.Seen.{term_seen, position_seen, row_seen}
-use Rattle.jl_rows.specs.Usual.{IsCounted, IsNumber, IsPosition, IsRowOf, IsTableOf, IsKind, with_part, ComesOn}
+use Rattle.jl_rows.specs.Usual.{IsCounted, IsNumber, IsPosition, IsRowOf, IsTableOf, IsKind, with_part}
 use Rattle.jl_rows.specs.declared.message.Message.{Message}
 use Rattle.jl_rows.specs.declared.message.Shape.{Shape}
 use Rattle.jl_rows.specs.declared.message.Sort.{Sort}

@@ -1,5 +1,5 @@
 -- Terms of usual shape.
-use Rattle.std.proofs.Common.{◌≡◌, ℕ, zero, suc, ◌+◌, ◌-◌, ◌*◌, ◌%◌, ◌^◌, ◌<◌, ◌≤◌, List, length, get_or, slice_range, slice_set, true, false, IfSome, Option, Some, None, is_some, unwrap_or, Result, Ok, refl, sym, ap, ◌∙◌, subst, arith}
+use Rattle.std.proofs.Common.{◌≡◌, ℕ, ◌+◌, ◌*◌, ◌%◌, ◌^◌, ◌<◌, ◌≤◌, List, length, get_or, slice_range, slice_set, true, false, IfSome, Option, Some, None, is_some, unwrap_or, Result, Ok, refl, ap, ◌∙◌, subst, arith}
 use Rattle.std.specs.Option.{option_map}
 use Rattle.std.specs.Str.{is_utf8}
 use Rattle.jl_base.specs.Results.{◌>>=◌}
@@ -9,17 +9,13 @@ use Rattle.jl_base.specs.declared.place.Span.{Span}
 use Rattle.jl_wire.specs.Fields.{Content}
 use Rattle.jl_rows.specs.Written as written
 use Rattle.jl_rows.specs.Written.{Ids}
-use Rattle.jl_rows.specs.Messages.{known, known_as}
-use Rattle.jl_rows.specs.Reading.{Part, Parts, part, number_32, text, ending, is_wrong_wire, string, plain, nothing_said, read_on, iri, literal, content_said, most_nested}
-use Rattle.jl_rows.specs.Seen.{ids_seen, ending_seen, term_seen, HasTerm}
+use Rattle.jl_rows.specs.Reading.{Part, Parts, part, number_32, text, ending, string, plain, nothing_said, read_on, iri, literal}
+use Rattle.jl_rows.specs.Seen.{ending_seen}
 use Rattle.jl_rows.specs.Usual.{IsCounted, IsNumber, IsEnding, with_part, ComesOn}
 use Rattle.jl_rows.specs.declared.message.Message.{Message}
 use Rattle.jl_rows.specs.declared.message.Shape.{Shape}
-use Rattle.jl_rows.specs.declared.row.RawIri.{RawIri}
 use Rattle.jl_rows.specs.declared.row.RawTail.{RawTail}
 use Rattle.jl_rows.specs.declared.row.RawTail.TheVariants as tails
-use Rattle.jl_rows.specs.declared.row.RawTerm.{RawTerm}
-use Rattle.jl_rows.specs.declared.row.RawTerm.TheVariants as terms
 use Rattle.jl_rows.proofs.Walking.{read_end}
 use Rattle.jl_rows.proofs.UsualFields.{counted_said}
 

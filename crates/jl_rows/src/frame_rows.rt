@@ -28,7 +28,12 @@ pub fn next_row_at(bytes: &[u8], at: usize, end: usize) -> Result<Option<(Row, u
 /// The same, with the row put where the caller keeps it: a row is large to copy. Where no row is answered, nothing is
 /// said of what then stands there.
 #[inline]
-pub fn next_row_into(bytes: &[u8], at: usize, end: usize, row: &mut Row) -> Result<Option<usize>, Kind>
+pub fn next_row_into(
+    bytes: &[u8],
+    at: usize,
+    end: usize,
+    row: &mut Row,
+) -> Result<Option<usize>, Kind>
     requires start { at ≤ end }
     requires inside { end ≤ length bytes.now }
     requires short { end - at < 2 ^ 32 }

@@ -22,6 +22,8 @@ mod triple_terms;
 mod usual_positions;
 mod usual_rows;
 mod usual_terms;
+#[cfg(test)]
+mod usual_tests;
 
 pub use first_row::{Head, head_at};
 pub use frame::next_frame;

@@ -20,10 +20,7 @@ fn short(bytes: &[u8], at: usize) -> Option<(u32, usize)>
     }
     let second = bytes[at + 1];
     if second < 128 {
-        return Some((
-            u32::from(first - 128) + u32::from(second) * 128,
-            at + 2,
-        ));
+        return Some((u32::from(first - 128) + u32::from(second) * 128, at + 2));
     }
     None
 }
@@ -40,10 +37,7 @@ fn id(bytes: &[u8], at: usize) -> Option<(u32, usize)>
     }
     let second = bytes[at + 1];
     if second < 128 {
-        return Some((
-            u32::from(first - 128) + u32::from(second) * 128,
-            at + 2,
-        ));
+        return Some((u32::from(first - 128) + u32::from(second) * 128, at + 2));
     }
     let third = bytes[at + 2];
     if third < 128 {

@@ -8,7 +8,13 @@ use crate::short_fields::{behind, counted, is_text};
 use crate::usual_terms::{iri, literal};
 
 #[inline(always)]
-fn iri_at(bytes: &[u8], at: usize, end: usize, group: u8, term: &mut Option<RawTerm>) -> Option<usize>
+fn iri_at(
+    bytes: &[u8],
+    at: usize,
+    end: usize,
+    group: u8,
+    term: &mut Option<RawTerm>,
+) -> Option<usize>
     requires inside { end + 16 ≤ length bytes.now }
     requires start { at ≤ end }
     requires group { group < 4 }
@@ -21,7 +27,13 @@ fn iri_at(bytes: &[u8], at: usize, end: usize, group: u8, term: &mut Option<RawT
 }
 
 #[inline(always)]
-fn label_at(bytes: &[u8], at: usize, end: usize, group: u8, term: &mut Option<RawTerm>) -> Option<usize>
+fn label_at(
+    bytes: &[u8],
+    at: usize,
+    end: usize,
+    group: u8,
+    term: &mut Option<RawTerm>,
+) -> Option<usize>
     requires inside { end + 16 ≤ length bytes.now }
     requires start { at ≤ end }
     requires group { group < 4 }
@@ -37,7 +49,13 @@ fn label_at(bytes: &[u8], at: usize, end: usize, group: u8, term: &mut Option<Ra
 }
 
 #[inline(always)]
-fn literal_at(bytes: &[u8], at: usize, end: usize, group: u8, term: &mut Option<RawTerm>) -> Option<usize>
+fn literal_at(
+    bytes: &[u8],
+    at: usize,
+    end: usize,
+    group: u8,
+    term: &mut Option<RawTerm>,
+) -> Option<usize>
     requires inside { end + 16 ≤ length bytes.now }
     requires start { at ≤ end }
     requires group { group < 3 }
@@ -67,7 +85,13 @@ fn default_at(bytes: &[u8], at: usize, end: usize, term: &mut Option<RawTerm>) -
 
 /// A subject, a predicate or an object, which are the groups 0, 1 and 2.
 #[inline(always)]
-pub fn position(bytes: &[u8], at: usize, end: usize, group: u8, term: &mut Option<RawTerm>) -> Option<usize>
+pub fn position(
+    bytes: &[u8],
+    at: usize,
+    end: usize,
+    group: u8,
+    term: &mut Option<RawTerm>,
+) -> Option<usize>
     requires inside { end + 16 ≤ length bytes.now }
     requires start { at ≤ end }
     requires group { group < 3 }

@@ -47,10 +47,10 @@ fn four_terms(bytes: &[u8], span: Span, t: &mut RawQuad) -> bool
     let Some(place) = position(bytes, place, end, 2, &mut t.o) else {
         return false;
     };
-    let Some(place) = graph(bytes, place, end, &mut t.g) else {
+    let Some(last) = graph(bytes, place, end, &mut t.g) else {
         return false;
     };
-    place == end
+    last == end
 }
 
 const NO_TERMS: RawTriple = RawTriple {
@@ -199,5 +199,9 @@ pub fn usual_row(bytes: &[u8], at: usize, end: usize, row: &mut Row) -> Option<u
         return None;
     }
     let span = counted(bytes, at, end)?;
-    if message(bytes, span, row) { Some(behind(span)) } else { None }
+    if message(bytes, span, row) {
+        Some(behind(span))
+    } else {
+        None
+    }
 }

@@ -3,8 +3,8 @@ use Rattle.jl_rows.proofs.UsualRows.{quad_said}
 use Rattle.jl_rows.proofs.usual_rows.four_terms.Goals as goal
 
 pub returns : goal.returns
-returns c = λ last. (
-  quad_said c.args.bytes.now c.args.span c.in-Some.place c.in-Some-position.place c.in-Some-position-2.place c.in-Some-graph.place c.behind-end.result c.position.new.term c.position-2.new.term c.position-3.new.term c.graph.new.term
-  c.behind-end.ensures (eqb-true _ _ last) c.in-Some.ensures c.in-Some-position.ensures c.in-Some-position-2.ensures c.in-Some-graph.ensures,
+returns c = λ ends. (
+  quad_said c.args.bytes.now c.args.span c.in-Some.place c.in-Some-position.place c.in-Some-position-2.place c.in-Some-graph.last c.behind-end.result c.position.new.term c.position-2.new.term c.position-3.new.term c.graph.new.term
+      c.behind-end.ensures (eqb-true _ _ ends) c.in-Some.ensures c.in-Some-position.ensures c.in-Some-position-2.ensures c.in-Some-graph.ensures,
   (c.in-Some.ensures.inside, c.in-Some-position.ensures.inside, c.in-Some-position-2.ensures.inside, c.in-Some-graph.ensures.inside),
 )

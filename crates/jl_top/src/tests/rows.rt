@@ -8,7 +8,7 @@ pub struct Row {
     pub err: &'static str,
 }
 
-pub const ROWS: [Row; 24] = [
+pub const ROWS: [Row; 30] = [
     Row {
         name: "one_triple",
         file: "230a0c0a0a100148085008580878010a054a031201610a0c120a0a002a0210014a021001",
@@ -233,6 +233,57 @@ pub const ROWS: [Row; 24] = [
             "# prefix p0 <http://example.org/v0/>\n<http://example.org/v129/n2458> <http://exampl",
             "e.org/p/26> \"text 531564\"@en .\n"
         ),
+        err: "",
+    },
+    Row {
+        name: "tables_of_no_slots",
+        file: "150a060a04100178010a0b120912017832017952017a",
+        status: 0,
+        out: "_:x _:y _:z .\n",
+        err: "",
+    },
+    Row {
+        name: "table_of_one_slot",
+        file: concat!(
+            "210a080a061001480178010a054a031201610a0e120c0a0210012a0210014a021001110a074a05080112",
+            "01620a0612044a021001"
+        ),
+        status: 0,
+        out: "<a> <a> <a> .\n<a> <a> <b> .\n",
+        err: "",
+    },
+    Row {
+        name: "table_of_65536_slots",
+        file: concat!(
+            "2d0a0a0a0810014880800478010a094a07088080041201610a1412120a04108080042a04108080044a04",
+            "10808004"
+        ),
+        status: 0,
+        out: "<a> <a> <a> .\n",
+        err: "",
+    },
+    Row {
+        name: "options_in_another_spelling",
+        file: "0e0a0c0a0a10014808500858087801170a150a1378017000580850880048082000180010010a00",
+        status: 0,
+        out: "",
+        err: "",
+    },
+    Row {
+        name: "empty_frames_and_metadata",
+        file: concat!(
+            "0000287a030a016b0a0c0a0a100148085008580878010a054a031201610a0c120a0a002a0210014a0210",
+            "0100"
+        ),
+        status: 0,
+        out: "<a> <a> <a> .\n",
+        err: "",
+    },
+    Row {
+        name: "fields_in_any_order",
+        file: "230a0c0a0a100148085008580878010a054a031201610a0c120a4a0210012a0210010a00",
+        status: 0,
+        out: "<a> <a> <a> .\n",
         err: "",
     },
 ];

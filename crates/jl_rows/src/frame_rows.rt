@@ -25,6 +25,25 @@ pub fn next_row_at(bytes: &[u8], at: usize, end: usize) -> Result<Option<(Row, u
     any_row_at(bytes, at, end)
 }
 
+// Any row, put where the caller keeps it. It stands apart, so that callers have no room to clear for a row of its own.
+#[inline(never)]
+fn any_row_into(bytes: &[u8], at: usize, end: usize, row: &mut Row) -> Result<Option<usize>, Kind>
+    requires start { at ≤ end }
+    requires inside { end ≤ length bytes.now }
+    requires short { end - at < 2 ^ 32 }
+    ensures exact { IsNextRow bytes.now at end (written_row row.new result) }
+    ensures within { IfOk result (λ found. IfSome found (λ next. IsRowWithin bytes.now at end (row.new, next))) }
+    ensures wide { IfOk result (λ found. IfSome found (λ next. at + 2 ≤ next)) }
+{
+    match any_row_at(bytes, at, end)? {
+        Some((found, next)) => {
+            *row = found;
+            Ok(Some(next))
+        }
+        None => Ok(None),
+    }
+}
+
 /// The same, with the row put where the caller keeps it: a row is large to copy. Where no row is answered, nothing is
 /// said of what then stands there.
 #[inline]
@@ -44,11 +63,5 @@ pub fn next_row_into(
     if let Some(next) = usual_row(bytes, at, end, row) {
         return Ok(Some(next));
     }
-    match any_row_at(bytes, at, end)? {
-        Some((found, next)) => {
-            *row = found;
-            Ok(Some(next))
-        }
-        None => Ok(None),
-    }
+    any_row_into(bytes, at, end, row)
 }

@@ -1,3 +1,4 @@
+pub mod AsciiBlocks
 pub mod AsciiRuns
 pub mod Bound
 pub mod FieldLaws

@@ -1,4 +1,4 @@
-ghost use Rattle.std.specs.Prelude.{◌≡◌, ◌+◌, ◌<◌, ◌≤◌, ◌↔◌, EachIndex, IfErr, IsTrue, length, nat_lt, slice_index, slice_range};
+ghost use Rattle.std.specs.Prelude.{ℕ, ◌≡◌, ◌+◌, ◌<◌, ◌≤◌, ◌↔◌, EachIndex, IfErr, IsTrue, length, nat_lt, slice_index, slice_range};
 ghost use Rattle.std.specs.List.{position_or_len};
 ghost use Rattle.std.specs.Result.{is_ok};
 ghost use Rattle.std.specs.Str.{is_utf8};
@@ -54,7 +54,30 @@ fn ascii_run(bytes: &[u8], at: usize) -> usize
     high.trailing_zeros() as usize
 }
 
-// Whether no byte is above 127, sixteen at a time.
+// Whether none of the 64 bytes at a place is above 127.
+#[inline(always)]
+fn is_ascii_block(text: &[u8], at: usize) -> bool
+    requires { at + 64 ≤ length text.now }
+    ensures { IsTrue result → 64 ≡ position_or_len (λ b. nat_lt 127 b) (slice_range text.now at (at + 64)) }
+{
+    u8x64::from_slice(&text[at..])
+        .simd_ge(u8x64::splat(128))
+        .to_bitmask()
+        == 0
+}
+
+// The place behind blocks without a byte above 127.
+fn past_ascii_blocks(text: &[u8]) -> usize
+    ensures { (k : ℕ) → k < result → slice_index text.now k < 128 }
+{
+    let mut end = 0;
+    'by_block: while text.len() - end >= 64 && is_ascii_block(text, end) {
+        end += 64;
+    }
+    end
+}
+
+// Whether no byte is above 127: whole blocks, and then sixteen at a time.
 fn is_ascii(text: &[u8]) -> bool
     ensures { IsTrue result ↔ EachIndex text.now (λ k. slice_index text.now k < 128) }
 {
@@ -62,7 +85,7 @@ fn is_ascii(text: &[u8]) -> bool
         return text.iter().all(|b| *b < 128);
     }
     let last = text.len() - 16;
-    let mut at = 0;
+    let mut at = past_ascii_blocks(text);
     while at < last {
         if ascii_run(text, at) < 16 {
             return false;

@@ -1,4 +1,5 @@
 pub mod Appending
 pub mod Graphs
 pub mod GoingLemmas
+pub mod Parting
 pub mod Endings

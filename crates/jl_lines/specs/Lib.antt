@@ -1,3 +1,4 @@
+pub mod Counts
 pub mod Spaces
 pub mod Writes
 pub mod Going

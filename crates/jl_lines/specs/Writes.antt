@@ -6,8 +6,8 @@ use Rattle.jl_base.specs.Causes.{Rose}
 use Rattle.jl_base.specs.Sinks.{Held, Adds}
 use Rattle.jl_base.specs.declared.place.Fault.{Fault}
 use Rattle.jl_text.specs.Line.{text}
-use Rattle.jl_lines.specs.declared.lines.Broken.{Broken}
-use Rattle.jl_lines.specs.declared.lines.Broken.TheVariants as broken
+use Rattle.jl_lines.specs.declared.decoding.Broken.{Broken}
+use Rattle.jl_lines.specs.declared.decoding.Broken.TheVariants as broken
 use Rattle.jl_lines.specs.declared.write.Ended.{Ended}
 use Rattle.jl_lines.specs.declared.write.Ended.TheVariants as ended
 

@@ -1,11 +1,12 @@
-//! The lines of a frame, row by row.
+//! The decoding of a frame, row by row.
 ghost use Rattle.std.specs.Prelude.{◌≡◌, ◌+◌, ◌-◌, ◌<◌, ◌≤◌, ◌^◌, IfOk, IfSome, OnOk, length, slice_range};
 ghost use Rattle.jl_rows.specs.Files as files;
 ghost use Rattle.jl_rows.specs.Seen.{options_seen};
 ghost use Rattle.jl_state.specs.Lawful.{state_seen, IsLawful};
-ghost use Rattle.jl_lines.specs.Going.{Comes, ComesOn, behind, rest_of};
+ghost use Rattle.jl_lines.specs.Going.{Comes, ComesOn, from_frame, made, rest_of};
 
-use crate::lines::{Broken, Lines};
+use crate::decoding::{Broken, Decoding};
+use crate::writing::Writing;
 use jl_base::{Fault, Kind, Place, Sink};
 use jl_rows::{Row, next_row_into};
 use jl_state::Stop;
@@ -32,7 +33,7 @@ fn malformed(frame: Frame, before: u32, kind: Kind) -> Broken
     })
 }
 
-impl Lines {
+impl<W: Writing + Drop> Decoding<W> {
     // The next row of a frame from a place in it on, behind so many rows: the place behind the row, or None where the
     // frame has none.
     fn next<K: Sink>(
@@ -49,9 +50,11 @@ impl Lines {
         requires short { length bytes.now ≤ 2 ^ 30 }
         requires start { at ≤ frame.end }
         requires inside { frame.end ≤ length bytes.now }
-        requires few { before < 2 ^ 32 - 1 }
-        ensures comes { ComesOn bytes.now (options_seen bytes.now self.old.state.options) frame before self.old at self.new (K.held out.old) (K.held out.new) (K.faults out.old) (K.faults out.new) result }
-        ensures within { IfOk result (λ found. IfSome found (λ next. (at < next) × (next ≤ frame.end))) }
+        requires rows { before < 2 ^ 32 - 1 }
+        requires few { self.old.counts.statements + self.old.counts.namespaces ≤ at }
+        ensures comes { ComesOn W.writes bytes.now (options_seen bytes.now self.old.state.options) frame before self.old at self.new (K.held out.old) (K.held out.new) (K.faults out.old) (K.faults out.new) result }
+        ensures within { IfOk result (λ found. IfSome found (λ next. (at < next) × (next ≤ frame.end) × (self.new.counts.statements + self.new.counts.namespaces ≤ next))) }
+        ensures few { OnOk result (self.new.counts.statements + self.new.counts.namespaces ≤ frame.end) }
         ensures later { K.faults out.old ≤ K.faults out.new }
         ensures lawful { OnOk result (IsLawful bytes.now self.new.state) }
         ensures options { self.new.state.options ≡ self.old.state.options }
@@ -66,11 +69,11 @@ impl Lines {
             Err(Stop::Fault(kind)) => return Err(malformed(frame, before, kind)),
             Err(Stop::NoMemory) => return Err(Broken::NoMemory),
         }
-        self.give(out)?;
+        self.give_long(out)?;
         Ok(Some(next))
     }
 
-    // The lines of a frame whose body begins at a place.
+    // The items of a frame whose body begins at a place.
     pub(crate) fn frame<K: Sink>(
         &mut self,
         alloc: Global,
@@ -83,9 +86,11 @@ impl Lines {
         requires short { length bytes.now ≤ 2 ^ 30 }
         requires start { at ≤ frame.end }
         requires inside { frame.end ≤ length bytes.now }
-        ensures comes { Comes (options_seen bytes.now self.old.state.options) (state_seen bytes.now self.old.state) self.old.buffer.items (rest_of bytes.now frame 0 at)
-            (state_seen bytes.now self.new.state) self.new.buffer.items (behind bytes.now frame.number frame.end)
+        requires few { self.old.counts.statements + self.old.counts.namespaces ≤ at }
+        ensures comes { Comes W.writes (options_seen bytes.now self.old.state.options) (state_seen bytes.now self.old.state) (made self.old) (rest_of bytes.now frame 0 at)
+            (state_seen bytes.now self.new.state) (made self.new) (from_frame bytes.now (frame.number + 1) frame.end)
             (K.held out.old) (K.held out.new) (K.faults out.old) (K.faults out.new) result }
+        ensures few { OnOk result (self.new.counts.statements + self.new.counts.namespaces ≤ frame.end) }
         ensures later { K.faults out.old ≤ K.faults out.new }
         ensures lawful { OnOk result (IsLawful bytes.now self.new.state) }
         ensures options { self.new.state.options ≡ self.old.state.options }

@@ -1,16 +1,22 @@
-//! The N-Quads lines of a file, written straight from its bytes while its rows are read.
+//! The decoding of a file by runs and waves: the N-Quads lines of its items, written straight from its bytes while its
+//! rows are read, or how many items there are.
 //!
 //! It promises that what it gives a sink is a front of the decoder's lines: all of them where nothing failed, those
-//! before the first fault where there is one. It stands on jl_state, jl_rows and jl_text.
+//! before the first fault where there is one; and that it counts the decoder's items. It stands on jl_frames, jl_state,
+//! jl_rows and jl_text.
 #![tactic(auto)]
 
-mod file;
+mod count;
+mod decoding;
 mod frame;
 mod known;
-mod lines;
+mod nowhere;
+mod runs;
 mod statement;
 #[cfg(test)]
 mod tests;
 mod write;
+mod writing;
 
+pub use count::{Refused, Tally, count_items};
 pub use write::{Ended, write_lines};

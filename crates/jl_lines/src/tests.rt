@@ -1,4 +1,4 @@
-use crate::{Ended, write_lines};
+use crate::{Ended, Refused, Tally, count_items, write_lines};
 use jl_base::{Fault, Kind, MemShelf, MemSource, Place, Shelf, Space};
 use std::test::Fail;
 
@@ -32,7 +32,7 @@ fn lines_of_a_file(rt: HostRuntime) -> Result<(), Fail> {
             Ok(())
         );
         let mut shelf = MemShelf::new(alloc, 100, room, 1, &[])?;
-        match write_lines(alloc, &space, &mut shelf) {
+        match write_lines(alloc, &space, 16, &mut shelf) {
             Ended::Whole => assert!(rt; whole),
             Ended::Malformed(found) => assert_eq!(rt; found, fault),
             Ended::WriteFault => assert_eq!(rt; room, 5),
@@ -40,6 +40,39 @@ fn lines_of_a_file(rt: HostRuntime) -> Result<(), Fail> {
         }
         assert_eq!(rt; shelf.turn().is_ok(), true);
         assert_eq!(rt; shelf.part(0), lines);
+    }
+    Ok(())
+}
+
+// The same files by how many items they have, under runs of one frame.
+#[test]
+fn items_of_a_file(rt: HostRuntime) -> Result<(), Fail> {
+    let alloc = rt.alloc();
+    let files: [(&[u8], u64, u64); 3] = [(b"", 0, 0), (b"\0\0", 2, 0), (ONE, 1, 1)];
+    for (file, frames, statements) in files {
+        let mut space = Space::new(alloc);
+        assert_eq!(rt;
+            space.fill(&mut MemSource::new(alloc, file, 100, &[])?, 100),
+            Ok(())
+        );
+        let tally = Tally {
+            frames,
+            statements,
+            namespaces: 0,
+        };
+        match count_items(alloc, &space, 1) {
+            Ok(found) => assert_eq!(rt; found, tally),
+            Err(_) => assert!(rt; false),
+        }
+    }
+    let mut space = Space::new(alloc);
+    assert_eq!(rt;
+        space.fill(&mut MemSource::new(alloc, FAULTY, 100, &[])?, 100),
+        Ok(())
+    );
+    match count_items(alloc, &space, 1) {
+        Err(Refused::Malformed(found)) => assert_eq!(rt; found.kind, Kind::NoEntry),
+        _ => assert!(rt; false),
     }
     Ok(())
 }

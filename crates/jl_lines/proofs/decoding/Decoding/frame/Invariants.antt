@@ -1,8 +1,8 @@
 use Rattle.std.proofs.Common.{◌≡◌, ◌+◌, ◌-◌, ◌≤◌}
 use Rattle.jl_rows.specs.Seen.{options_seen}
 use Rattle.jl_state.specs.Lawful.{state_seen, IsLawful}
-use Rattle.jl_lines.specs.Going.{Goes, rest_of}
-use Rattle.jl_lines.proofs.lines.Lines.frame.Given as goal
+use Rattle.jl_lines.specs.Going.{Goes, made, rest_of}
+use Rattle.jl_lines.proofs.decoding.Decoding.frame.Given as goal
 
 -- from the frame's first row to the one at this place
 abbrev pub invariant-by_row : goal.invariant-by_row
@@ -10,8 +10,9 @@ invariant-by_row g l = record {
   start : l.at ≤ l.place;
   inside : l.place ≤ l.frame.end;
   counted : l.before + l.at ≤ l.place;
-  went : Goes (options_seen l.bytes l.fn.self.state.options) (state_seen l.bytes l.fn.self.state) l.fn.self.buffer.items (rest_of l.bytes l.frame 0 l.at)
-      (state_seen l.bytes l.self.state) l.self.buffer.items (rest_of l.bytes l.frame l.before l.place) (g.K.Sink.held l.fn.out) (g.K.Sink.held l.out);
+  few : l.self.counts.statements + l.self.counts.namespaces ≤ l.place;
+  went : Goes g.W.Writing.writes (options_seen l.bytes l.fn.self.state.options) (state_seen l.bytes l.fn.self.state) (made l.fn.self) (rest_of l.bytes l.frame 0 l.at)
+      (state_seen l.bytes l.self.state) (made l.self) (rest_of l.bytes l.frame l.before l.place) (g.K.Sink.held l.fn.out) (g.K.Sink.held l.out);
   later : g.K.Sink.faults l.fn.out ≤ g.K.Sink.faults l.out;
   lawful : IsLawful l.bytes l.self.state;
   options : l.self.state.options ≡ l.fn.self.state.options;

@@ -1,0 +1,126 @@
+//! The decoding of rows, one after another: the state behind them, what was written of their items, and how many items
+//! they state.
+ghost use Rattle.std.specs.Prelude.{◌≡◌, ◌+◌, ◌<◌, ◌≤◌, ◌^◌, IfOk, OnOk, length};
+ghost use Rattle.jl_rows.specs.Heads.{ArePassed};
+ghost use Rattle.jl_state.specs.States.{opening};
+ghost use Rattle.jl_rows.specs.Seen.{options_seen, row_seen, HasRow};
+ghost use Rattle.jl_state.specs.Steps.{step};
+ghost use Rattle.jl_state.specs.Lawful.{state_seen, IsLawful};
+ghost use Rattle.jl_lines.specs.Going.{Gives, TakesRow, made, none_made};
+
+use crate::writing::Writing;
+use jl_base::{Fault, Sink, write_all};
+use jl_rows::{Options, Row};
+use jl_state::{State, Stated, Stop};
+use std::alloc::{AllocError, Global};
+
+/// How many bytes of lines are handed to the sink at once, or somewhat more.
+const LONG: usize = 1 << 17;
+
+/// How many items of each sort.
+#[derive(Clone, Copy, Debug, PartialEq, Eq)]
+pub struct Counts {
+    pub statements: u64,
+    pub namespaces: u64,
+}
+
+/// A state, and what was made of the items before it. The buffer has what was written but not given yet.
+#[derive(Debug, Drop)]
+pub struct Decoding<W> {
+    pub state: State,
+    pub buffer: Vec<u8>,
+    pub counts: Counts,
+    pub writing: W,
+}
+
+/// Why no further row is taken.
+#[derive(Clone, Copy, Debug)]
+pub enum Broken {
+    /// The file's first fault; the lines before it are in the buffer, or were given.
+    Malformed(Fault),
+    WriteFault,
+    NoMemory,
+}
+
+impl<W: Writing + Drop> Decoding<W> {
+    /// The state before the first row, under options that passed the checks of a first row, and nothing made yet.
+    pub fn opening(
+        alloc: Global,
+        bytes: &[u8],
+        options: &Options,
+        writing: W,
+    ) -> Result<Decoding<W>, AllocError>
+        requires { ArePassed bytes.now options.now }
+        ensures exact { IfOk result (λ d. state_seen bytes.now d.state ≡ opening (options_seen bytes.now options.now)) }
+        ensures lawful { IfOk result (λ d. IsLawful bytes.now d.state) }
+        ensures options { IfOk result (λ d. d.state.options ≡ options.now) }
+        ensures none { IfOk result (λ d. made d ≡ none_made) }
+    {
+        let state = State::opening(alloc, bytes, options)?;
+        let counts = Counts {
+            statements: 0,
+            namespaces: 0,
+        };
+        Ok(Decoding {
+            state,
+            buffer: Vec::new(alloc),
+            counts,
+            writing,
+        })
+    }
+
+    // One row's items.
+    pub(crate) fn row(&mut self, alloc: Global, bytes: &[u8], row: &Row) -> Result<(), Stop>
+        requires lawful { IsLawful bytes.now self.old.state }
+        requires inside { HasRow bytes.now row.now }
+        requires short { length bytes.now ≤ 2 ^ 30 }
+        requires few { self.old.counts.statements + self.old.counts.namespaces < 2 ^ 30 }
+        ensures exact { TakesRow W.writes bytes.now (step (options_seen bytes.now self.old.state.options) (row_seen bytes.now row.now) (state_seen bytes.now self.old.state)) (made self.old) self.new result }
+        ensures lawful { OnOk result (IsLawful bytes.now self.new.state) }
+        ensures options { self.new.state.options ≡ self.old.state.options }
+        ensures few { self.new.counts.statements + self.new.counts.namespaces ≤ self.old.counts.statements + self.old.counts.namespaces + 1 }
+    {
+        match self.state.step(alloc, bytes, row)? {
+            Stated::Nothing => {}
+            Stated::Statement => {
+                self.counts.statements += 1;
+                self.writing
+                    .statement(&mut self.buffer, bytes, &self.state)?;
+            }
+            Stated::Namespace { name, prefix, iri } => {
+                self.counts.namespaces += 1;
+                self.writing
+                    .namespace(&mut self.buffer, bytes, name, prefix, iri)?;
+            }
+        }
+        Ok(())
+    }
+
+    // Gives the sink the buffer.
+    pub(crate) fn give<K: Sink>(&mut self, out: &mut K) -> Result<(), Broken>
+        ensures gives { Gives self.old.buffer.items self.new.buffer.items (K.held out.old) (K.held out.new) (K.faults out.old) (K.faults out.new) result }
+        ensures later { K.faults out.old ≤ K.faults out.new }
+        ensures state { self.new.state ≡ self.old.state }
+        ensures counts { self.new.counts ≡ self.old.counts }
+    {
+        if write_all(out, &self.buffer).is_err() {
+            return Err(Broken::WriteFault);
+        }
+        self.buffer.clear();
+        Ok(())
+    }
+
+    // Gives the sink the buffer once it is long.
+    #[inline]
+    pub(crate) fn give_long<K: Sink>(&mut self, out: &mut K) -> Result<(), Broken>
+        ensures gives { Gives self.old.buffer.items self.new.buffer.items (K.held out.old) (K.held out.new) (K.faults out.old) (K.faults out.new) result }
+        ensures later { K.faults out.old ≤ K.faults out.new }
+        ensures state { self.new.state ≡ self.old.state }
+        ensures counts { self.new.counts ≡ self.old.counts }
+    {
+        if self.buffer.len() < LONG {
+            return Ok(());
+        }
+        self.give(out)
+    }
+}

@@ -7,7 +7,7 @@ use std::alloc::Global;
 use std::marker::Model;
 
 /// How many bytes are asked of a source at a time.
-const STEP: usize = 65536;
+const STEP: usize = 262144;
 
 /// The bytes of an input.
 #[derive(Debug, Drop)]
@@ -97,9 +97,22 @@ fn fill_through<S: Source>(
         if limit - count < got as u64 {
             return Err(FillFault::TooLong);
         }
+        reserve_ahead(bytes, got, limit - count);
         match bytes.extend_from_slice(&buffer[..got]) {
             Ok(()) => count += got as u64,
             Err(_) => return Err(FillFault::NoMemory),
         }
     }
+}
+
+// Where a piece has no room, makes some for three times what is here, so that a long input is seldom moved; but for no
+// more than may still come. Where there is no memory for so much, the piece itself may still find its own.
+fn reserve_ahead(bytes: &mut Vec<u8>, piece: usize, most: u64)
+    ensures { bytes.new.items ≡ bytes.old.items }
+{
+    if bytes.capacity().saturating_sub(bytes.len()) >= piece {
+        return;
+    }
+    let ahead = bytes.len().saturating_mul(3).saturating_add(piece);
+    let _made = bytes.reserve(ahead.min(most as usize));
 }

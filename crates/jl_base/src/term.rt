@@ -1,4 +1,4 @@
-ghost use Rattle.std.specs.Prelude.{◌≡◌, IfOk};
+ghost use Rattle.std.specs.Prelude.{◌≡◌, ◌↔◌, IfOk, IsTrue};
 
 use crate::{Seq, Text};
 use sqlite_items::Boxed;
@@ -53,6 +53,17 @@ impl Tail {
             Tail::Typed(iri) => Ok(Tail::Typed(iri.copy()?)),
         }
     }
+
+    pub fn same(&self, other: &Tail) -> bool
+        ensures { IsTrue result ↔ (self.now ≡ other.now) }
+    {
+        match (self, other) {
+            (Tail::Simple, Tail::Simple) => true,
+            (Tail::Lang(tag), Tail::Lang(other)) => tag.same(other),
+            (Tail::Typed(iri), Tail::Typed(other)) => iri.same(other),
+            _ => false,
+        }
+    }
 }
 
 impl Term {
@@ -71,6 +82,26 @@ impl Term {
             Term::Default => Ok(Term::Default),
         }
     }
+
+    #[cycle(same_term)]
+    pub fn same(&self, other: &Term) -> bool
+        ensures { IsTrue result ↔ (self.now ≡ other.now) }
+    {
+        match (self, other) {
+            (Term::Iri(iri), Term::Iri(other)) => iri.same(other),
+            (Term::Bnode(label), Term::Bnode(other)) => label.same(other),
+            (
+                Term::Literal { lex, tail },
+                Term::Literal {
+                    lex: other,
+                    tail: end,
+                },
+            ) => lex.same(other) && tail.same(end),
+            (Term::Triple(three), Term::Triple(other)) => three.get().same(other.get()),
+            (Term::Default, Term::Default) => true,
+            _ => false,
+        }
+    }
 }
 
 impl Three {
@@ -83,6 +114,13 @@ impl Three {
             p: self.p.copy(alloc)?,
             o: self.o.copy(alloc)?,
         })
+    }
+
+    #[cycle(same_term)]
+    pub fn same(&self, other: &Three) -> bool
+        ensures { IsTrue result ↔ (self.now ≡ other.now) }
+    {
+        self.s.same(&other.s) && self.p.same(&other.p) && self.o.same(&other.o)
     }
 }
 
@@ -106,6 +144,27 @@ impl Item {
                 name: name.copy()?,
                 iri: iri.copy()?,
             }),
+        }
+    }
+    /// Whether the other says the same, text for text.
+    pub fn same(&self, other: &Item) -> bool
+        ensures { IsTrue result ↔ (self.now ≡ other.now) }
+    {
+        match (self, other) {
+            (Item::Triple(s, p, o), Item::Triple(other_s, other_p, other_o)) => {
+                s.same(other_s) && p.same(other_p) && o.same(other_o)
+            }
+            (Item::Quad(s, p, o, g), Item::Quad(other_s, other_p, other_o, other_g)) => {
+                s.same(other_s) && p.same(other_p) && o.same(other_o) && g.same(other_g)
+            }
+            (
+                Item::Namespace { name, iri },
+                Item::Namespace {
+                    name: other_name,
+                    iri: other_iri,
+                },
+            ) => name.same(other_name) && iri.same(other_iri),
+            _ => false,
         }
     }
 }

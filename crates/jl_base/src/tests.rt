@@ -45,6 +45,13 @@ fn items_are_copied(rt: HostRuntime) -> Result<(), Fail> {
     let copied = item.copy(alloc)?;
     let print = format!(in alloc; "{item:?}")?;
     assert_eq!(rt; format!(in alloc; "{copied:?}")?, print);
+    assert!(rt; copied.same(&item));
+    let name = Item::Namespace {
+        name: text(alloc, "p")?,
+        iri: text(alloc, "u:")?,
+    };
+    assert!(rt; name.same(&name.copy(alloc)?));
+    assert!(rt; !name.same(&item));
     Ok(())
 }
 

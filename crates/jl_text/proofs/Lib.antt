@@ -6,3 +6,4 @@ pub mod RawLemmas
 pub mod CleanLemmas
 pub mod WideLemmas
 pub mod LabelLemmas
+pub mod StatementLemmas

@@ -2,3 +2,4 @@ pub mod Line
 pub mod Escapes
 pub mod Notices
 pub mod Labels
+pub mod Graphs

@@ -5,12 +5,25 @@ ghost use Rattle.jl_text.specs.Escapes.{AreRaw, RawUpTo};
 use crate::escape::{Terminal, is_clean};
 use std::simd::prelude::*;
 
+const WIDE_LANES: usize = 64;
+
 const LANES: usize = 16;
 
 const HALF_LANES: usize = 8;
 
 /// The bytes that are read for a short text.
 pub(crate) const SHORT: usize = 32;
+
+#[inline(always)]
+fn is_raw_wide_block(text: &[u8], at: usize) -> bool
+    requires { at + WIDE_LANES ≤ length text.now }
+    ensures { IsTrue result → AreRaw Terminal.StringLiteral text.now at (at + WIDE_LANES) }
+{
+    let v = u8x64::from_slice(&text[at..]);
+    let is_control = v.simd_lt(u8x64::splat(b' ')) | v.simd_eq(u8x64::splat(0x7f));
+    let is_echar = v.simd_eq(u8x64::splat(b'"')) | v.simd_eq(u8x64::splat(b'\\'));
+    (is_control | is_echar).to_bitmask() == 0
+}
 
 #[inline(always)]
 fn is_raw_block(text: &[u8], at: usize) -> bool
@@ -63,12 +76,24 @@ pub(crate) fn is_raw_label_front(text: &[u8], at: usize, len: usize) -> bool
     stops.trailing_zeros() as usize >= len
 }
 
+// Passes over whole wide blocks of raw bytes.
+fn past_wide_string_blocks(text: &[u8], at: usize) -> usize
+    requires { at ≤ length text.now }
+    ensures { RawUpTo Terminal.StringLiteral text.now at result }
+{
+    let mut end = at;
+    'by_wide_block: while text.len() - end >= WIDE_LANES && is_raw_wide_block(text, end) {
+        end += WIDE_LANES;
+    }
+    end
+}
+
 /// Passes over whole blocks of raw bytes.
 pub(crate) fn past_string_blocks(text: &[u8], at: usize) -> usize
     requires { at ≤ length text.now }
     ensures { RawUpTo Terminal.StringLiteral text.now at result }
 {
-    let mut end = at;
+    let mut end = past_wide_string_blocks(text, at);
     'by_block: while text.len() - end >= LANES && is_raw_block(text, end) {
         end += LANES;
     }

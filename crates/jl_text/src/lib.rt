@@ -1,11 +1,12 @@
-//! The texts of the tool: the parts of an N-Quads line, written straight from bytes, and the line that a fault has on
-//! standard error.
+//! The texts of the tool: the parts of an N-Quads line, written straight from bytes, the line of an item that stands by
+//! itself, and the line that a fault has on standard error.
 //!
 //! It promises that each writer appends exactly what the definitions of a line say, and that a fault's line takes no
 //! memory. It stands on jl_base and itoa.
 #![tactic(auto)]
 
 mod escape;
+mod item;
 mod label;
 mod lanes;
 mod notice;
@@ -13,6 +14,7 @@ mod short;
 mod term;
 mod wide;
 
+pub use item::line;
 pub use label::labels_stay_apart;
 pub use notice::{Notice, report_fault};
 pub use short::Short;

@@ -1,9 +1,10 @@
 use crate::{
-    Notice, is_clean_iri, is_xsd_string, labels_stay_apart, push_clean_iri, push_clean_iri_at,
-    push_datatype, push_datatype_at, push_iri, push_label, push_label_at, push_namespace,
-    push_string, push_string_at, push_tag, push_tag_at, report_fault,
+    Notice, is_clean_iri, is_xsd_string, labels_stay_apart, line, push_clean_iri,
+    push_clean_iri_at, push_datatype, push_datatype_at, push_iri, push_label, push_label_at,
+    push_namespace, push_string, push_string_at, push_tag, push_tag_at, report_fault,
 };
-use jl_base::{Fault, Kind, Place, Span};
+use jl_base::{Boxed, Fault, Item, Kind, Place, Span, Tail, Term, Text, Three};
+use std::alloc::Global;
 use std::test::Fail;
 
 #[test]
@@ -125,5 +126,95 @@ fn notices(rt: HostRuntime) -> Result<(), Fail> {
     for (notice, line) in rows {
         assert_eq!(rt; report_fault(notice).bytes(), line);
     }
+    Ok(())
+}
+
+fn text(alloc: Global, bytes: &[u8]) -> Result<Text, Fail> {
+    Ok(Text::from_bytes(alloc, bytes)?)
+}
+
+fn iri(alloc: Global, bytes: &[u8]) -> Result<Term, Fail> {
+    Ok(Term::Iri(text(alloc, bytes)?))
+}
+
+fn literal(alloc: Global, lex: &[u8], tail: Tail) -> Result<Term, Fail> {
+    let lex = text(alloc, lex)?;
+    Ok(Term::Literal { lex, tail })
+}
+
+fn line_of_copy(alloc: Global, item: &Item, out: &mut Text) -> Result<bool, Fail> {
+    let copied = item.copy(alloc)?;
+    line(alloc, &copied, out)?;
+    Ok(copied.same(item))
+}
+
+#[test]
+fn nested_triple_terms(rt: HostRuntime) -> Result<(), Fail> {
+    let alloc = rt.alloc();
+    let three = Three {
+        s: iri(alloc, b"a")?,
+        p: iri(alloc, b"a")?,
+        o: literal(alloc, b"x", Tail::Lang(text(alloc, b"en")?))?,
+    };
+    let nested = Term::Triple(Boxed::new(alloc, three)?);
+    let item = Item::Triple(nested.copy(alloc)?, iri(alloc, b"a")?, iri(alloc, b"a")?);
+    let quad = Item::Quad(
+        iri(alloc, b"a")?,
+        iri(alloc, b"a")?,
+        nested,
+        iri(alloc, b"g")?,
+    );
+    let mut out = Text::new(alloc);
+    assert!(rt; line_of_copy(alloc, &item, &mut out)?);
+    assert!(rt; line_of_copy(alloc, &quad, &mut out)?);
+    assert!(rt; !item.same(&quad));
+    let expected = b"<< <a> <a> \"x\"@en >> <a> <a> .\n<a> <a> << <a> <a> \"x\"@en >> <g> .\n";
+    assert_eq!(rt; out.bytes(), expected.as_slice());
+    Ok(())
+}
+
+#[test]
+fn escapes_and_labels(rt: HostRuntime) -> Result<(), Fail> {
+    let alloc = rt.alloc();
+    let string = text(alloc, b"http://www.w3.org/2001/XMLSchema#string")?;
+    let items = [
+        Item::Triple(
+            Term::Bnode(text(alloc, b"a-X")?),
+            iri(alloc, b"a b")?,
+            literal(alloc, b"\"\n\x7F\xC3\xA9", Tail::Simple)?,
+        ),
+        Item::Quad(
+            Term::Bnode(text(alloc, b"")?),
+            iri(alloc, b"a b")?,
+            literal(alloc, b"x", Tail::Typed(string))?,
+            Term::Default,
+        ),
+        Item::Namespace {
+            name: text(alloc, b"p\n")?,
+            iri: text(alloc, b"u:")?,
+        },
+    ];
+    let mut out = text(alloc, b"# ")?;
+    for item in items.iter() {
+        assert!(rt; line_of_copy(alloc, item, &mut out)?);
+    }
+    let expected =
+        b"# _:aX2DX58 <a\\u0020b> \"\\\"\\n\\u007F\xC3\xA9\" .\n_:X <a\\u0020b> \"x\" .\n# prefix p\\n <u:>\n";
+    assert_eq!(rt; out.bytes(), expected.as_slice());
+    Ok(())
+}
+
+#[test]
+fn long_strings(rt: HostRuntime) -> Result<(), Fail> {
+    let alloc = rt.alloc();
+    let mut out = Vec::new(alloc);
+    let mut lex = [b'a'; 150];
+    push_string(&mut out, &lex)?;
+    assert_eq!(rt; out.len(), 152);
+    lex[70] = b'"';
+    lex[149] = 0x7f;
+    push_string(&mut out, &lex)?;
+    assert_eq!(rt; out.len(), 152 + 158);
+    assert_eq!(rt; &out[222..226], b"a\\\"a".as_slice());
     Ok(())
 }

@@ -1,12 +1,16 @@
 -- What a job is to write, and how it is to end, by the bytes of its files.
-use Rattle.std.specs.Prelude.{ℕ, List, [], ◌∷◌, Option, Some, None}
+use Rattle.std.specs.Prelude.{ℕ, List, [], ◌∷◌, length, Option, Some, None, Result, Ok, Err}
 use Rattle.jl_base.specs.Results.{Reading}
 use Rattle.jl_base.specs.Terms.{Item}
 use Rattle.jl_base.specs.declared.place.Fault.{Fault}
 use Rattle.jl_rows.specs.Decoder.{decode}
+use Rattle.jl_rows.specs.Files.{frames}
 use Rattle.jl_text.specs.Line.{text}
+use Rattle.jl_lines.specs.Counts.{statements, namespaces}
+use Rattle.jl_survey.specs.Reports.{inspect_report, valid_report}
+use Rattle.jl_survey.specs.Surveys.{Surveyed, survey}
 use Rattle.jl_top.specs.declared.command.Command.{Command}
-use Rattle.jl_top.specs.declared.command.Command.TheVariants.{Nquads}
+use Rattle.jl_top.specs.declared.command.Command.TheVariants.{Nquads, Validate, Inspect}
 use Rattle.jl_top.specs.declared.command.Job.{Job}
 
 -- Malformed has the number of a file, counted from 1, and the file's first fault.
@@ -28,6 +32,27 @@ ending_at file (Some fault) = Malformed file fault
 abbrev pub lines_of : Reading Item Fault → Goal
 lines_of said = record { parts = text said.items ∷ []; ending = ending_at 1 said.fault }
 
+-- a report, and nothing else
+abbrev pub reported : List ℕ → Goal
+reported report = record { parts = report ∷ []; ending = Done }
+
+-- no report, for a fault of the first file
+abbrev pub unreported : Fault → Goal
+unreported fault = record { parts = [] ∷ []; ending = Malformed 1 fault }
+
+-- the report of a file without a fault
+abbrev pub report_of : List ℕ → List Item → Option Fault → Goal
+report_of file items None = reported (valid_report (length (frames file).items) (statements items) (namespaces items))
+report_of file items (Some fault) = unreported fault
+
+abbrev pub validated : List ℕ → Reading Item Fault → Goal
+validated file said = report_of file said.items said.fault
+
+-- the report of what was surveyed
+abbrev pub inspected : Result Surveyed Fault → Goal
+inspected (Ok numbers) = reported (inspect_report numbers)
+inspected (Err fault) = unreported fault
+
 -- the bytes of the first file
 abbrev pub first : List (List ℕ) → List ℕ
 first [] = []
@@ -35,6 +60,8 @@ first (file ∷ files) = file
 
 abbrev pub goal_of : Command → List (List ℕ) → Goal
 goal_of Nquads files = lines_of (decode (first files))
+goal_of Validate files = validated (first files) (decode (first files))
+goal_of Inspect files = inspected (survey (first files))
 
 abbrev pub goal : Job → List (List ℕ) → Goal
 goal job files = goal_of job.command files

@@ -3,6 +3,10 @@
 pub enum Command {
     /// Writes the N-Quads lines of a file.
     Nquads,
+    /// Decodes a file, and writes how many frames, statements and namespace declarations it has.
+    Validate,
+    /// Writes how many rows of each sort a file has. They are read and not decoded.
+    Inspect,
 }
 
 /// What the words of a command line ask for.

@@ -3,13 +3,15 @@ ghost use Rattle.std.specs.Prelude.{◌≡◌, ◌<◌, ◌≤◌, ◌^◌, leng
 ghost use Rattle.jl_base.specs.SourceLists.{total};
 ghost use Rattle.jl_rows.specs.Decoder.{decode};
 ghost use Rattle.jl_top.specs.Jobs.{job_of, files_of};
-ghost use Rattle.jl_top.specs.Goals.{lines_of, goal};
+ghost use Rattle.jl_top.specs.Goals.{goal, inspected, lines_of, reported, validated};
+ghost use Rattle.jl_survey.specs.Surveys as spec;
 ghost use Rattle.jl_top.specs.Running.{Meets, Runs};
 
 use crate::gather::gather;
 use crate::{Command, Job, job};
-use jl_base::{Seq, Shelf, Source, Space, Text};
-use jl_lines::{Ended, write_lines};
+use jl_base::{Seq, Shelf, Source, Space, Text, write_all};
+use jl_lines::{Ended, Refused, count_items, write_lines};
+use jl_survey::{report_inspect, report_valid, survey};
 use jl_text::Notice;
 use std::alloc::Global;
 
@@ -17,15 +19,68 @@ use std::alloc::Global;
 const LIMIT: u64 = 1 << 30;
 
 // The lines of a file.
-fn write_nquads<K: Shelf>(alloc: Global, file: &Space, out: &mut K) -> Result<(), Notice>
-    requires { length file.now ≤ 2 ^ 30 }
+fn write_nquads<K: Shelf>(
+    alloc: Global,
+    file: &Space,
+    per: u32,
+    out: &mut K,
+) -> Result<(), Notice>
+    requires short { length file.now ≤ 2 ^ 30 }
+    requires some { 0 < per }
     ensures { Meets (lines_of (decode file.now)) (K.held out.old) (K.held out.new) (K.faults out.old) (K.faults out.new) result }
 {
-    match write_lines(alloc, file, out) {
+    match write_lines(alloc, file, per, out) {
         Ended::Whole => Ok(()),
         Ended::Malformed(fault) => Err(Notice::Malformed { file: 1, fault }),
         Ended::WriteFault => Err(Notice::WriteFault),
         Ended::NoMemory => Err(Notice::NoMemory),
+    }
+}
+
+// A report.
+fn write_report<K: Shelf>(report: &Text, out: &mut K) -> Result<(), Notice>
+    ensures { Meets (reported report.now) (K.held out.old) (K.held out.new) (K.faults out.old) (K.faults out.new) result }
+{
+    match write_all(out, report.bytes()) {
+        Ok(()) => Ok(()),
+        Err(_) => Err(Notice::WriteFault),
+    }
+}
+
+// The report of a file that is decoded whole.
+fn write_valid<K: Shelf>(
+    alloc: Global,
+    file: &Space,
+    per: u32,
+    out: &mut K,
+) -> Result<(), Notice>
+    requires short { length file.now ≤ 2 ^ 30 }
+    requires some { 0 < per }
+    ensures { Meets (validated file.now (decode file.now)) (K.held out.old) (K.held out.new) (K.faults out.old) (K.faults out.new) result }
+{
+    let tally = match count_items(alloc, file, per) {
+        Ok(tally) => tally,
+        Err(Refused::Malformed(fault)) => return Err(Notice::Malformed { file: 1, fault }),
+        Err(Refused::NoMemory) => return Err(Notice::NoMemory),
+    };
+    match report_valid(alloc, tally.frames, tally.statements, tally.namespaces) {
+        Ok(report) => write_report(&report, out),
+        Err(_) => Err(Notice::NoMemory),
+    }
+}
+
+// The report of a file whose rows are read.
+fn write_survey<K: Shelf>(alloc: Global, file: &Space, out: &mut K) -> Result<(), Notice>
+    requires { length file.now ≤ 2 ^ 30 }
+    ensures { Meets (inspected (spec.survey file.now)) (K.held out.old) (K.held out.new) (K.faults out.old) (K.faults out.new) result }
+{
+    let survey = match survey(file) {
+        Ok(survey) => survey,
+        Err(fault) => return Err(Notice::Malformed { file: 1, fault }),
+    };
+    match report_inspect(alloc, &survey, file) {
+        Ok(report) => write_report(&report, out),
+        Err(_) => Err(Notice::NoMemory),
     }
 }
 
@@ -38,10 +93,14 @@ fn write_goal<K: Shelf>(
 ) -> Result<(), Notice>
     requires some { 0 < length files.now }
     requires within { total files.now ≤ 2 ^ 30 }
+    requires run { 0 < job.now.run }
     ensures { Meets (goal job.now files.now) (K.held out.old) (K.held out.new) (K.faults out.old) (K.faults out.new) result }
 {
+    let file = files.at(0);
     match job.command {
-        Command::Nquads => write_nquads(alloc, files.at(0), out),
+        Command::Nquads => write_nquads(alloc, file, job.run, out),
+        Command::Validate => write_valid(alloc, file, job.run, out),
+        Command::Inspect => write_survey(alloc, file, out),
     }
 }
 

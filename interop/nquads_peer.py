@@ -30,12 +30,18 @@ PEERS = {
     "serdi": ["serdi", "-i", "nquads", "-o", "nquads", "FILE"],
 }
 TERM = re.compile(r'<(?P<iri>[^>]*)>|_:(?P<blank>[^ ]+)|"(?P<lex>(?:[^"\\]|\\.)*)"(?:@(?P<tag>[^ ]+)|\^\^<(?P<datatype>[^>]*)>)?')
-ESCAPE = re.compile(r"\\(?:u([0-9A-F]{4})|U([0-9A-F]{8})|(.))")
+# In an IRI, and in a literal.
+UCHAR = re.compile(r"\\(?:u([0-9A-F]{4})|U([0-9A-F]{8}))")
+ESCAPE = re.compile(UCHAR.pattern + r"|\\(.)")
 LETTERS = {"t": "\t", "b": "\b", "n": "\n", "r": "\r", "f": "\f"}
 
 
-def unescaped(text):
-    return ESCAPE.sub(lambda m: chr(int(m[1] or m[2], 16)) if m[1] or m[2] else LETTERS.get(m[3], m[3]), text)
+def iri_of(text):
+    return UCHAR.sub(lambda m: chr(int(m[1] or m[2], 16)), text)
+
+
+def string_of(text):
+    return ESCAPE.sub(lambda m: LETTERS.get(m[3], m[3]) if m[3] else chr(int(m[1] or m[2], 16)), text)
 
 
 def terms_of(line):
@@ -43,12 +49,12 @@ def terms_of(line):
     terms = []
     for found in TERM.finditer(line):
         if found["iri"] is not None:
-            terms.append(("iri", unescaped(found["iri"])))
+            terms.append(("iri", iri_of(found["iri"])))
         elif found["blank"] is not None:
             terms.append(("blank", found["blank"]))
         else:
-            datatype = found["datatype"] and unescaped(found["datatype"])
-            terms.append(("literal", unescaped(found["lex"]), found["tag"], datatype))
+            datatype = found["datatype"] and iri_of(found["datatype"])
+            terms.append(("literal", string_of(found["lex"]), found["tag"], datatype))
     return terms
 
 

@@ -57,7 +57,7 @@ def main():
     words = argparse.ArgumentParser(prog="interop/run", description="Holds jellyp against programs that nobody here wrote.")
     words.add_argument("binary", metavar="BINARY")
     words.add_argument("--seed", default="1", help="what all files are made from (1)")
-    words.add_argument("--files", type=int, default=2400, help="how many Jelly files are made, and how many damaged (2400)")
+    words.add_argument("--files", type=int, default=2000, help="how many Jelly files are made, and how many damaged (2000)")
     words.add_argument("--texts", type=int, default=60, help="how many texts rapper and serdi read (60)")
     words.add_argument("--keep", default="/tmp/jellyp-interop", help="where the files of failures are kept")
     words = words.parse_args()
@@ -67,6 +67,7 @@ def main():
         commands = commands_of(program, tally)
         if protobuf_is_there(tally, folder):
             import damage
+            import findings
             import jelly_peer
             import nquads_peer
             jelly_peer.run(program, commands, tally, words.seed, words.files)
@@ -74,6 +75,7 @@ def main():
             readers = there(tally, [("rapper", "raptor2-utils"), ("serdi", "serdi")])
             if readers:
                 nquads_peer.run(program, readers, tally, words.seed, words.texts, folder)
+            findings.run(program, readers, tally, folder)
     print("interop: %d passed, %d failed, %d skipped" % (tally.passed, tally.failed, tally.skipped))
     return 1 if tally.failed else 0
 

@@ -1,4 +1,5 @@
-"""Damaged files: flipped bits, other bytes, cuts, frames that change places, frames and rows that are gone; from a seed.
+"""Damaged files, from a seed: flipped bits, other bytes, other numbers, cuts, frames that change places, and frames and rows
+that are gone.
 
 Whatever the damage is, jellyp has to end with status 0 or 1, and with the line of a named fault. Two things more are held
 against it:
@@ -137,16 +138,40 @@ def drop(made, frames):
     return making.file_bytes(frames[:at] + frames[at + 1:]), len(making.file_bytes(frames[:at]))
 
 
-def lose(made, frames):
-    """A row less in a frame that has some."""
+def changed(made, frames, change):
+    """The file with a change in the rows of one frame."""
     at = made.choice([at for at, frame in enumerate(frames) if frame.rows])
-    shorter = jelly.RdfStreamFrame()
-    shorter.CopyFrom(frames[at])
-    del shorter.rows[made.randrange(len(shorter.rows))]
-    return making.file_bytes(frames[:at] + [shorter] + frames[at + 1:]), len(making.file_bytes(frames[:at]))
+    frame = jelly.RdfStreamFrame()
+    frame.CopyFrom(frames[at])
+    change(frame.rows)
+    return making.file_bytes(frames[:at] + [frame] + frames[at + 1:]), len(making.file_bytes(frames[:at]))
 
 
-DAMAGES = (flip, flip, overwrite, cut, swap, drop, lose, lose)
+def lose(made, frames):
+    """A row less."""
+    return changed(made, frames, lambda rows: rows.pop(made.randrange(len(rows))))
+
+
+def numbers_of(message):
+    """The numbers that are set in a message and in those within it: each message, and the field's name."""
+    for field, value in message.ListFields():
+        if field.type in (field.TYPE_UINT32, field.TYPE_ENUM):
+            yield message, field.name
+        elif field.type == field.TYPE_MESSAGE:
+            yield from numbers_of(value)
+
+
+def renumber(made, frames):
+    """Another number in a row, if it has one."""
+    def change(rows):
+        numbers = list(numbers_of(made.choice(rows)))
+        if numbers:
+            message, name = made.choice(numbers)
+            setattr(message, name, made.choice((0, 1, 2, 3, getattr(message, name) + 1, 65536, 65537, 2**31 - 1)))
+    return changed(made, frames, change)
+
+
+DAMAGES = (flip, flip, overwrite, cut, swap, drop, lose, renumber, renumber)
 
 
 def wrong_beside_reader(data, status, out, found):
@@ -215,7 +240,7 @@ def run(program, commands, tally, seed, count):
         for number in range(count):
             made = random.Random("%s, damaged file %d" % (seed, number))
             frames = making.make(made, 1 + number % 3, rows=40)
-            damage = DAMAGES[number % len(DAMAGES)]
+            damage = made.choice(DAMAGES)
             damaged, first = damage(made, frames)
             what = "damaged file %d of seed %s (%s)" % (number, seed, damage.__name__)
             is_cut = damage in (cut, drop) and making.file_bytes(frames).startswith(damaged)

@@ -7,6 +7,12 @@ import reading
 from program import difference
 
 
+# What a report counts, and the kind of row.
+COUNTED = [("options rows", "options"), ("triples", "triple"), ("quads", "quad"), ("graph starts", "graph_start"),
+           ("graph ends", "graph_end"), ("namespaces", "namespace"), ("name entries", "name"),
+           ("prefix entries", "prefix"), ("datatype entries", "datatype")]
+
+
 def parsed(frames):
     """The frames as protobuf reads them back from their bytes: lists of rows."""
     return [list(jelly.RdfStreamFrame.FromString(frame.SerializeToString()).rows) for frame in frames]
@@ -14,14 +20,16 @@ def parsed(frames):
 
 def report_valid(frames, items):
     namespaces = sum(item[0] == "namespace" for _, item in items)
-    return "valid: %d frames, %d statements, %d namespaces\n" % (len(frames), len(items) - namespaces, namespaces)
+    statements = len(items) - namespaces
+    return "valid: %d frames, %d statements, %d namespaces\n" % (len(frames), statements, namespaces)
 
 
 def report_inspect(frames, data):
     rows = [row for frame in frames for row in frame.rows]
     kinds = [row.WhichOneof("row") for row in rows]
     said = ["no", "yes"]
-    lines = ["bytes: %d" % len(data), "frames: %d" % len(frames), "metadata: %d" % sum(len(frame.metadata) for frame in frames)]
+    metadata = sum(len(frame.metadata) for frame in frames)
+    lines = ["bytes: %d" % len(data), "frames: %d" % len(frames), "metadata: %d" % metadata]
     if rows:
         o = rows[0].options
         lines += ["options: physical %s, logical %d, version %d, generalized %s, star %s"
@@ -32,9 +40,7 @@ def report_inspect(frames, data):
                   'stream name: "%s"' % reading.string_text(o.stream_name)]
     else:
         lines += ["options: none"]
-    for name, kind in [("options rows", "options"), ("triples", "triple"), ("quads", "quad"), ("graph starts", "graph_start"),
-                       ("graph ends", "graph_end"), ("namespaces", "namespace"), ("name entries", "name"),
-                       ("prefix entries", "prefix"), ("datatype entries", "datatype")]:
+    for name, kind in COUNTED:
         lines.append("%s: %d" % (name, kinds.count(kind)))
     return "\n".join(lines) + "\n"
 

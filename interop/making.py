@@ -74,10 +74,8 @@ class Maker:
         return "".join(self.random.choice(letters if self.chance(0.4) else LETTERS) for _ in range(length))
 
     def tag(self):
-        sound = LETTERS + "019"
-        groups = ["".join(self.random.choices(LETTERS, k=self.random.randint(1, 8)))]
-        groups += ["".join(self.random.choices(sound, k=self.random.randint(1, 8))) for _ in range(self.random.randint(0, 2))]
-        return "-".join(groups)
+        letters = [LETTERS] + [LETTERS + "019"] * self.random.randint(0, 2)
+        return "-".join("".join(self.random.choices(group, k=self.random.randint(1, 8))) for group in letters)
 
     def entry_text(self, table):
         if not self.plain:

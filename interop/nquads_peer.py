@@ -29,7 +29,8 @@ PEERS = {
     "rapper": ["rapper", "-q", "-i", "nquads", "-o", "nquads", "FILE", "-"],
     "serdi": ["serdi", "-i", "nquads", "-o", "nquads", "FILE"],
 }
-TERM = re.compile(r'<(?P<iri>[^>]*)>|_:(?P<blank>[^ ]+)|"(?P<lex>(?:[^"\\]|\\.)*)"(?:@(?P<tag>[^ ]+)|\^\^<(?P<datatype>[^>]*)>)?')
+TERM = re.compile(r'<(?P<iri>[^>]*)>|_:(?P<blank>[^ ]+)'
+                  r'|"(?P<lex>(?:[^"\\]|\\.)*)"(?:@(?P<tag>[^ ]+)|\^\^<(?P<datatype>[^>]*)>)?')
 # In an IRI, and in a literal.
 UCHAR = re.compile(r"\\(?:u([0-9A-F]{4})|U([0-9A-F]{8}))")
 ESCAPE = re.compile(UCHAR.pattern + r"|\\(.)")

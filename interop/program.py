@@ -67,4 +67,5 @@ def difference(got, want):
     if got == want:
         return ""
     at = len(os.path.commonprefix([got, want]))
-    return "byte %d: %r instead of %r" % (at, got[at - 20 if at > 20 else 0:at + 60], want[at - 20 if at > 20 else 0:at + 60])
+    shown = slice(max(at - 20, 0), at + 60)
+    return "byte %d: %r instead of %r" % (at, got[shown], want[shown])

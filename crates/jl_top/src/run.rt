@@ -19,12 +19,7 @@ use std::alloc::Global;
 const LIMIT: u64 = 1 << 30;
 
 // The lines of a file.
-fn write_nquads<K: Shelf>(
-    alloc: Global,
-    file: &Space,
-    per: u32,
-    out: &mut K,
-) -> Result<(), Notice>
+fn write_nquads<K: Shelf>(alloc: Global, file: &Space, per: u32, out: &mut K) -> Result<(), Notice>
     requires short { length file.now ≤ 2 ^ 30 }
     requires some { 0 < per }
     ensures { Meets (lines_of (decode file.now)) (K.held out.old) (K.held out.new) (K.faults out.old) (K.faults out.new) result }
@@ -48,12 +43,7 @@ fn write_report<K: Shelf>(report: &Text, out: &mut K) -> Result<(), Notice>
 }
 
 // The report of a file that is decoded whole.
-fn write_valid<K: Shelf>(
-    alloc: Global,
-    file: &Space,
-    per: u32,
-    out: &mut K,
-) -> Result<(), Notice>
+fn write_valid<K: Shelf>(alloc: Global, file: &Space, per: u32, out: &mut K) -> Result<(), Notice>
     requires short { length file.now ≤ 2 ^ 30 }
     requires some { 0 < per }
     ensures { Meets (validated file.now (decode file.now)) (K.held out.old) (K.held out.new) (K.faults out.old) (K.faults out.new) result }

@@ -4,12 +4,12 @@ mod rows;
 
 use super::*;
 use jl_base::{MemShelf, MemSource, Text};
-use rows::{KINDS, LASTS, REPEATED, ROWS};
+use rows::{KINDS, LASTS, REPEATED, REPORTS, ROWS};
 use std::alloc::{AllocError, Global};
 use std::test::Fail;
 use std::thread::Threads;
 
-const ROOM: usize = 4096;
+const ROOM: usize = 16384;
 
 const TRIPLE: &[u8] = b"<a> <a> <a> .\n";
 
@@ -92,6 +92,39 @@ fn worked_files(rt: HostRuntime) -> Result<(), Fail> {
         assert_eq!(rt; left.out.under_way(), row.out.as_bytes(), "at {}", row.name);
         assert_eq!(rt; left.err.under_way(), row.err.as_bytes(), "at {}", row.name);
     }
+    Ok(())
+}
+
+#[test]
+fn reports(rt: HostRuntime) -> Result<(), Fail> {
+    let alloc = rt.alloc();
+    for report in &REPORTS {
+        let file = bytes_of(alloc, report.file)?;
+        let left = served(&rt, alloc, &[report.command, "f"], &file, [&[], &[], &[]])?;
+        assert_eq!(rt; left.status, report.status);
+        assert_eq!(rt; left.out.under_way(), report.out.as_bytes());
+        assert_eq!(rt; left.err.under_way(), report.err.as_bytes());
+    }
+    Ok(())
+}
+
+// Sixty-four runs of sixteen frames are a wave. Some frames more make a second one, and then the file ends in a length.
+#[test]
+fn tail_fault_behind_two_waves(rt: HostRuntime) -> Result<(), Fail> {
+    let alloc = rt.alloc();
+    let mut file = bytes_of(alloc, ROWS[0].file)?;
+    let mut lines = Vec::new(alloc);
+    lines.extend_from_slice(TRIPLE)?;
+    for _ in 1..1030 {
+        push_bytes(&mut file, REPEATED)?;
+        lines.extend_from_slice(TRIPLE)?;
+    }
+    file.push(5)?;
+    let left = served(&rt, alloc, NQUADS, &file, [&[], &[], &[]])?;
+    let line = b"jellyp: malformed: file 1, frame 1031, row 0: Truncated\n".as_slice();
+    assert_eq!(rt; left.status, 1);
+    assert_eq!(rt; left.out.under_way(), lines.as_slice());
+    assert_eq!(rt; left.err.under_way(), line);
     Ok(())
 }
 

@@ -389,3 +389,113 @@ pub const LASTS: [(&str, &str, u8, &str); 15] = [
     (GRAPHS, "080a022a000a022a00", 2, "NoGraph"),
     (GRAPHS, "060a0422021a00", 1, "GraphOpen"),
 ];
+
+/// A report's file, with the command and what the program answers and writes.
+pub struct Report {
+    pub command: &'static str,
+    pub file: &'static str,
+    pub status: u8,
+    pub out: &'static str,
+    pub err: &'static str,
+}
+
+pub const REPORTS: [Report; 9] = [
+    Report {
+        command: "validate",
+        file: "",
+        status: 0,
+        out: "valid: 0 frames, 0 statements, 0 namespaces\n",
+        err: "",
+    },
+    // One triple, and a frame of metadata.
+    Report {
+        command: "validate",
+        file: concat!(
+            "230a0c0a0a100148085008580878010a054a031201610a0c120a0a002a0210014a021001",
+            "057a030a016b"
+        ),
+        status: 0,
+        out: "valid: 2 frames, 1 statements, 0 namespaces\n",
+        err: "",
+    },
+    // A triple before a name that was never written.
+    Report {
+        command: "validate",
+        file: concat!(
+            "230a0c0a0a100148085008580878010a054a031201610a0c120a0a002a0210014a021001",
+            "080a0612040a021005"
+        ),
+        status: 1,
+        out: "",
+        err: "jellyp: malformed: file 1, frame 2, row 1: NoEntry\n",
+    },
+    Report {
+        command: "inspect",
+        file: "230a0c0a0a100148085008580878010a054a031201610a0c120a0a002a0210014a021001",
+        status: 0,
+        out: concat!(
+            "bytes: 36\nframes: 1\nmetadata: 0\n",
+            "options: physical TRIPLES, logical 0, version 1, generalized no, star no\n",
+            "tables: names 8, prefixes 8, datatypes 8\nstream name: \"\"\n",
+            "options rows: 1\ntriples: 1\nquads: 0\ngraph starts: 0\ngraph ends: 0\nnamespaces: 0\n",
+            "name entries: 1\nprefix entries: 0\ndatatype entries: 0\n"
+        ),
+        err: "",
+    },
+    Report {
+        command: "inspect",
+        file: concat!(
+            "230a0c0a0a100148085008580878010a054a031201610a0c120a0a002a0210014a021001",
+            "057a030a016b"
+        ),
+        status: 0,
+        out: concat!(
+            "bytes: 42\nframes: 2\nmetadata: 1\n",
+            "options: physical TRIPLES, logical 0, version 1, generalized no, star no\n",
+            "tables: names 8, prefixes 8, datatypes 8\nstream name: \"\"\n",
+            "options rows: 1\ntriples: 1\nquads: 0\ngraph starts: 0\ngraph ends: 0\nnamespaces: 0\n",
+            "name entries: 1\nprefix entries: 0\ndatatype entries: 0\n"
+        ),
+        err: "",
+    },
+    // A name that was never written, and options that differ, are no faults of it.
+    Report {
+        command: "inspect",
+        file: "160a0c0a0a100148085008580878010a0612040a0210050e0a0c0a0a10014808500858087802",
+        status: 0,
+        out: concat!(
+            "bytes: 38\nframes: 2\nmetadata: 0\n",
+            "options: physical TRIPLES, logical 0, version 1, generalized no, star no\n",
+            "tables: names 8, prefixes 8, datatypes 8\nstream name: \"\"\n",
+            "options rows: 2\ntriples: 1\nquads: 0\ngraph starts: 0\ngraph ends: 0\nnamespaces: 0\n",
+            "name entries: 0\nprefix entries: 0\ndatatype entries: 0\n"
+        ),
+        err: "",
+    },
+    Report {
+        command: "inspect",
+        file: "0000",
+        status: 0,
+        out: concat!(
+            "bytes: 2\nframes: 2\nmetadata: 0\noptions: none\n",
+            "options rows: 0\ntriples: 0\nquads: 0\ngraph starts: 0\ngraph ends: 0\nnamespaces: 0\n",
+            "name entries: 0\nprefix entries: 0\ndatatype entries: 0\n"
+        ),
+        err: "",
+    },
+    // A length that runs past the file's end, behind a name that was never written.
+    Report {
+        command: "inspect",
+        file: "160a0c0a0a100148085008580878010a0612040a02100505",
+        status: 1,
+        out: "",
+        err: "jellyp: malformed: file 1, frame 2, row 0: Truncated\n",
+    },
+    Report {
+        command: "inspect",
+        file: "070a054a03120161",
+        status: 1,
+        out: "",
+        err: "jellyp: malformed: file 1, frame 1, row 1: NoOptions\n",
+    },
+];

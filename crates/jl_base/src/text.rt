@@ -34,6 +34,13 @@ impl Text {
         Ok(Text { bytes })
     }
 
+    /// The text of bytes that stand in a vector already. Takes no memory.
+    pub fn from_vec(bytes: Vec<u8>) -> Text
+        ensures { result ≡ bytes.items }
+    {
+        Text { bytes }
+    }
+
     /// A text of the same bytes.
     pub fn copy(&self) -> Result<Text, AllocError>
         ensures { IfOk result (λ t. t ≡ self.now) }

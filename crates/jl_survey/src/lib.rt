@@ -1,0 +1,17 @@
+//! What a Jelly file has in it, without what its rows mean, and the reports of that.
+//!
+//! It promises that a survey has exactly the numbers of the file's frames, metadata and rows of each sort, or else is
+//! exactly the first fault that keeps its rows from being read; and that the reports are their layouts, byte for byte. It
+//! stands on jl_rows, jl_text, jl_wire, jl_base and itoa.
+#![tactic(auto)]
+
+mod metadata;
+mod numbers;
+mod report;
+#[cfg(test)]
+mod tests;
+mod walk;
+
+pub use numbers::Survey;
+pub use report::{report_inspect, report_valid};
+pub use walk::survey;

@@ -4,3 +4,4 @@ pub mod Appending
 pub mod ShortFiles
 pub mod MetadataLaws
 pub mod WalkLaws
+pub mod SurveyLaws

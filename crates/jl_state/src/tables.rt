@@ -73,7 +73,7 @@ impl Lookup<'_> {
     }
 
     /// The prefix and the name of the IRI that has these ids.
-    #[inline]
+    #[inline(always)]
     pub fn iri(&self, ids: LastIds) -> Result<(Extent, Extent), Kind>
         requires { AreTables self.now.bytes.now self.now.tables.now }
         ensures exact { Gives (λ i. text_in self.now.bytes.now i.0 ++ text_in self.now.bytes.now i.1) result
@@ -87,7 +87,7 @@ impl Lookup<'_> {
     }
 
     // The end of a literal.
-    #[inline]
+    #[inline(always)]
     pub fn tail(&self, tail: RawTail) -> Result<KnownTail, Kind>
         requires tables { AreTables self.now.bytes.now self.now.tables.now }
         requires inside { rows.HasTail self.now.bytes.now tail }

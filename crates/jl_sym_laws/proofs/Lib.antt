@@ -1,0 +1,11 @@
+pub mod Ids
+pub mod Logs
+pub mod Later
+pub mod Composition
+pub mod Quiet
+pub mod Terms
+pub mod SmallLaws
+pub mod Times
+pub mod RowLaws
+pub mod RunLaws
+pub mod DecodeLaws

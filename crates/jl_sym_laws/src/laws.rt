@@ -1,0 +1,51 @@
+//! What holds of summaries, for all of them: laws, each the contract of a function that does nothing.
+ghost use Rattle.jl_sym_laws.specs.Laws.{Decodes, BehindIsRun, SmallStepsSum, RowsSum, Composes, StaysTimed, UnitDoesNothing, UnitBefore, UnitAfter, GroupsAlike, ReadingsSum, ReadingsTimed, JoinedSum, SumsSummarise, JoinedSummarise};
+
+/// From a state that stands for a history, the decoder's steps over further rows lead to what the definitions say of
+/// these rows after that history: the first fault at its place, or a state that stands for the longer history. Items
+/// aside, these are the steps of the decoder's own run.
+pub fn decodes()
+    ensures leads { Decodes }
+    ensures run { BehindIsRun }
+{}
+
+/// On every state, the summary of a small step does what the step does, and the summary of a row what the decoder's
+/// step of that row does, its fault included. A certain fault is a demand that no state meets.
+pub fn steps_sum()
+    ensures small { SmallStepsSum }
+    ensures row { RowsSum }
+{}
+
+/// On every state, two summaries composed do what the first does and then the second, first faults included. What is
+/// asked of the first, that none of its moments lies behind its rows, holds again of the composed one.
+pub fn composes()
+    ensures acts { Composes }
+    ensures timed { StaysTimed }
+{}
+
+/// The summary of no rows does nothing, also in front of another one and behind it.
+pub fn unit_is_neutral()
+    ensures alone { UnitDoesNothing }
+    ensures before { UnitBefore }
+    ensures after { UnitAfter }
+{}
+
+/// Three summaries act alike in both groupings, on every state.
+pub fn groups_alike()
+    ensures { GroupsAlike }
+{}
+
+/// The summary of a reading, made by composing row by row, does on every state what the decoder's steps over these
+/// rows do, and then the fault that ends the reading; two summaries composed do what the two readings joined do.
+pub fn runs_sum()
+    ensures reading { ReadingsSum }
+    ensures timed { ReadingsTimed }
+    ensures joined { JoinedSum }
+{}
+
+/// A summary that does what the decoder's steps do leads, from each state that stands for a history, to what the
+/// decoder finds in the reading after that history; and two such summaries composed lead to what it finds in both.
+pub fn summarises()
+    ensures reading { SumsSummarise }
+    ensures joined { JoinedSummarise }
+{}

@@ -9,3 +9,4 @@ pub mod Times
 pub mod RowLaws
 pub mod RunLaws
 pub mod DecodeLaws
+pub mod RowsWorked

@@ -6,3 +6,4 @@ pub mod Composing
 pub mod SmallSteps
 pub mod Runs
 pub mod Laws
+pub mod WorkedRows

@@ -1,5 +1,6 @@
 //! What holds of summaries, for all of them: laws, each the contract of a function that does nothing.
 ghost use Rattle.jl_sym_laws.specs.Laws.{Decodes, BehindIsRun, SmallStepsSum, RowsSum, Composes, StaysTimed, UnitDoesNothing, UnitBefore, UnitAfter, GroupsAlike, ReadingsSum, ReadingsTimed, JoinedSum, SumsSummarise, JoinedSummarise};
+ghost use Rattle.jl_sym_laws.specs.WorkedRows.{ThreeAtOpening, ThreeAfterTwo, ThreeAfterEight, ImpliedIdsAcrossRuns, NothingToRepeat, WrongRowBehind, RepeatedTermKeepsItsText, PreviousPrefixAfterRewrite, TripleAfterGraphEnd, NestedTermWithoutEntry};
 
 /// From a state that stands for a history, the decoder's steps over further rows lead to what the definitions say of
 /// these rows after that history: the first fault at its place, or a state that stands for the longer history. Items
@@ -48,4 +49,19 @@ pub fn runs_sum()
 pub fn summarises()
     ensures reading { SumsSummarise }
     ensures joined { JoinedSummarise }
+{}
+
+/// Runs of rows and what their summaries do to states, worked by hand: ids left out, terms and prefixes that were set
+/// in an earlier run, graphs, triple terms, and the first fault of each of several kinds.
+pub fn worked_rows()
+    ensures three_at_opening { ThreeAtOpening }
+    ensures three_after_two { ThreeAfterTwo }
+    ensures three_after_eight { ThreeAfterEight }
+    ensures implied_ids_across_runs { ImpliedIdsAcrossRuns }
+    ensures nothing_to_repeat { NothingToRepeat }
+    ensures wrong_row_behind { WrongRowBehind }
+    ensures repeated_term_keeps_its_text { RepeatedTermKeepsItsText }
+    ensures previous_prefix_after_rewrite { PreviousPrefixAfterRewrite }
+    ensures triple_after_graph_end { TripleAfterGraphEnd }
+    ensures nested_term_without_entry { NestedTermWithoutEntry }
 {}

@@ -10,3 +10,10 @@ pub mod RowLaws
 pub mod RunLaws
 pub mod DecodeLaws
 pub mod RowsWorked
+pub mod LastWrites
+pub mod Sameness
+pub mod Drops
+pub mod Compaction
+pub mod Counting
+pub mod Bounds
+pub mod Fitting

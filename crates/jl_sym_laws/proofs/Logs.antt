@@ -91,7 +91,7 @@ filled_length x Table.Prefix Table.Datatype id text = refl
 filled_length x Table.Datatype Table.Name id text = refl
 filled_length x Table.Datatype Table.Prefix id text = refl
 
-put_length : (b : Bool) (x : Tables) (u t : Table) (id : ℕ) (text : List ℕ) → length (table_in (cond b (filled_in x u id text) x) t) ≡ length (table_in x t)
+pub put_length : (b : Bool) (x : Tables) (u t : Table) (id : ℕ) (text : List ℕ) → length (table_in (cond b (filled_in x u id text) x) t) ≡ length (table_in x t)
 put_length true x u t id text = filled_length x u t id text
 put_length false x u t id text = refl
 

@@ -5,5 +5,7 @@ pub mod Acting
 pub mod Composing
 pub mod SmallSteps
 pub mod Runs
+pub mod Compacting
+pub mod Sizes
 pub mod Laws
 pub mod WorkedRows

@@ -1,9 +1,9 @@
 -- Worked rows: runs of rows, the states before them, and what their summaries give.
-use Rattle.std.specs.Prelude.{◌≡◌, ℕ, ◌+◌, List, [], ◌∷◌, ◌++◌, false, Option, Some, None, Result, Ok, Err}
+use Rattle.std.specs.Prelude.{◌≡◌, ℕ, ◌+◌, List, [], ◌∷◌, ◌++◌, false, Some, None, Ok, Err}
 use Rattle.jl_base.specs.Terms.{Tail, Value}
 use Rattle.jl_base.specs.declared.kind.Kind.TheVariants.{NoTerm, WrongRow, BadEntry, NoEntry, NoGraph}
 use Rattle.jl_rows.specs.declared.row.Table.{Table}
-use Rattle.jl_rows.specs.Written.{Ids, Ending, Term, StreamOptions, Row}
+use Rattle.jl_rows.specs.Written.{Ending, Term, StreamOptions, Row}
 use Rattle.jl_rows.specs.Files.{Placed, place_at, fault_at}
 use Rattle.jl_state.specs.States.{Filling, State, opening}
 use Rattle.jl_sym_laws.specs.Summaries.{Summary}
@@ -104,31 +104,31 @@ abbrev pub RepeatedTermKeepsItsText : Type 0
 RepeatedTermKeepsItsText =
     act (composed (composed (frame 1 1 (name 0 a ∷ name 0 b ∷ Row.Triple (iri 0 1) (iri 0 2) (plain x) ∷ [])) (frame 1 2 (name 1 z ∷ []))) (frame 1 3 (Row.Triple Term.Unset Term.Unset (plain y) ∷ []))) start
     ≡ Ok (record (with_names (None ∷ Some z ∷ Some b ∷ None ∷ None ∷ None ∷ None ∷ None ∷ None ∷ []) 1) {
-        ids = record { prefix = 0; name = 2 };
-        subject = Some (Value.Iri a);
-        predicate = Some (Value.Iri b);
-        object = Some (Value.Literal y Tail.Simple);
-      })
+      ids = record { prefix = 0; name = 2 };
+      subject = Some (Value.Iri a);
+      predicate = Some (Value.Iri b);
+      object = Some (Value.Literal y Tail.Simple);
+    })
 
 -- An IRI without a prefix id has the last one's, and its text as it is by then: in frame 3 the subject.
 abbrev pub PreviousPrefixAfterRewrite : Type 0
 PreviousPrefixAfterRewrite =
     act (composed (frame 1 1 (prefix 0 u ∷ name 0 a ∷ Row.Triple (iri 1 1) (iri 0 1) (iri 0 1) ∷ [])) (composed (frame 1 2 (prefix 1 v ∷ [])) (frame 1 3 (Row.Triple (iri 0 1) Term.Unset Term.Unset ∷ [])))) start
     ≡ Ok (record start {
-        tables = record start.tables { names = None ∷ Some a ∷ None ∷ None ∷ None ∷ None ∷ None ∷ None ∷ None ∷ []; prefixes = None ∷ Some v ∷ None ∷ [] };
-        name_entry = 1;
-        prefix_entry = 1;
-        ids = record { prefix = 1; name = 1 };
-        subject = Some (Value.Iri (v ++ a));
-        predicate = Some (Value.Iri (u ++ a));
-        object = Some (Value.Iri (u ++ a));
-      })
+      tables = record start.tables { names = None ∷ Some a ∷ None ∷ None ∷ None ∷ None ∷ None ∷ None ∷ None ∷ []; prefixes = None ∷ Some v ∷ None ∷ [] };
+      name_entry = 1;
+      prefix_entry = 1;
+      ids = record { prefix = 1; name = 1 };
+      subject = Some (Value.Iri (v ++ a));
+      predicate = Some (Value.Iri (u ++ a));
+      object = Some (Value.Iri (u ++ a));
+    })
 
 -- a triple behind the end of its graph, each row in a frame of its own
 abbrev pub TripleAfterGraphEnd : Type 0
 TripleAfterGraphEnd =
     act (composed (composed (frame 3 1 (name 0 a ∷ Row.GraphStart (iri 0 1) ∷ [])) (frame 3 2 (Row.Triple (iri 0 1) (iri 0 1) (iri 0 1) ∷ [])))
-        (composed (frame 3 3 (Row.GraphEnd ∷ [])) (frame 3 4 (Row.Triple Term.Unset Term.Unset Term.Unset ∷ [])))) (opening (options 3))
+    (composed (frame 3 3 (Row.GraphEnd ∷ [])) (frame 3 4 (Row.Triple Term.Unset Term.Unset Term.Unset ∷ [])))) (opening (options 3))
     ≡ Err (fault_at 4 1 NoGraph)
 
 -- names that count on inside a triple term, of which the second was never written

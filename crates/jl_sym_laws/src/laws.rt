@@ -1,5 +1,7 @@
 //! What holds of summaries, for all of them: laws, each the contract of a function that does nothing.
 ghost use Rattle.jl_sym_laws.specs.Laws.{Decodes, BehindIsRun, SmallStepsSum, RowsSum, Composes, StaysTimed, UnitDoesNothing, UnitBefore, UnitAfter, GroupsAlike, ReadingsSum, ReadingsTimed, JoinedSum, SumsSummarise, JoinedSummarise};
+ghost use Rattle.jl_sym_laws.specs.Compacting.{SlotIsLastWrite, DropsWrite, DropsDemand, CompactingKeeps};
+ghost use Rattle.jl_sym_laws.specs.Sizes.{CompactedFits};
 ghost use Rattle.jl_sym_laws.specs.WorkedRows.{ThreeAtOpening, ThreeAfterTwo, ThreeAfterEight, ImpliedIdsAcrossRuns, NothingToRepeat, WrongRowBehind, RepeatedTermKeepsItsText, PreviousPrefixAfterRewrite, TripleAfterGraphEnd, NestedTermWithoutEntry};
 
 /// From a state that stands for a history, the decoder's steps over further rows lead to what the definitions say of
@@ -49,6 +51,28 @@ pub fn runs_sum()
 pub fn summarises()
     ensures reading { SumsSummarise }
     ensures joined { JoinedSummarise }
+{}
+
+/// A slot at a moment of a run is the text of the last write to that slot before the moment, or else what the incoming
+/// state has there.
+pub fn slots_are_last_writes()
+    ensures { SlotIsLastWrite }
+{}
+
+/// What may be left out of a summary, which then acts on every state as before: a write to an address that was written
+/// to before, where no text that is read is its own; and a demand that was made before. Texts are read at six moments
+/// at most.
+pub fn what_may_be_dropped()
+    ensures write { DropsWrite }
+    ensures demand { DropsDemand }
+{}
+
+/// A compacted summary, from which all this is left out, acts on every state as the whole one. Where ids are inside of
+/// the tables and moments don't fall, it has at most 14 writes for each slot that the tables have, and at most 4
+/// demands for each, and 8 more, however long the run is.
+pub fn compacting_keeps()
+    ensures acts { CompactingKeeps }
+    ensures size { CompactedFits }
 {}
 
 /// Runs of rows and what their summaries do to states, worked by hand: ids left out, terms and prefixes that were set

@@ -190,7 +190,7 @@ tables_hidden last k x us w vs h = λ i. record {
 }
 
 -- a slot outside of its table
-no_slot : (last : Table → ℕ) (k : ℕ) (x : Tables) (ws : List Written) (t : Table) (id : ℕ) → length (table_in x t) ≤ id → slots_of_tables (played last k x ws) t id ≡ None
+pub no_slot : (last : Table → ℕ) (k : ℕ) (x : Tables) (ws : List Written) (t : Table) (id : ℕ) → length (table_in x t) ≤ id → slots_of_tables (played last k x ws) t id ≡ None
 no_slot last k x ws t id h = let size = played_length last k x ws t in let outside : length (table_in (played last k x ws) t) ≤ id = omega (arith, h, size) in get_or_past (table_in (played last k x ws) t) id None outside
 
 slot_filled : (last : Table → ℕ) (k : ℕ) (x : Tables) (us : List Written) (w : Written) (vs : List Written) (t : Table) (id : ℕ) → was_filled w us ≡ true
@@ -227,7 +227,7 @@ is_there slots Table.Name id = is_some (slots Table.Name id)
 is_there slots Table.Prefix id = (id == 0) || is_some (slots Table.Prefix id)
 is_there slots Table.Datatype id = is_some (slots Table.Datatype id)
 
-there_test : (slots : Slots) (t : Table) (id : ℕ) → is_some (answered (text_in slots t id)) ≡ is_there slots t id
+pub there_test : (slots : Slots) (t : Table) (id : ℕ) → is_some (answered (text_in slots t id)) ≡ is_there slots t id
 there_test slots Table.Name id = filled_test (slots Table.Name id)
 there_test slots Table.Prefix id = prefix_test (id == 0) (slots Table.Prefix id)
 there_test slots Table.Datatype id = filled_test (slots Table.Datatype id)

@@ -17,3 +17,5 @@ pub mod Compaction
 pub mod Counting
 pub mod Bounds
 pub mod Fitting
+pub mod Cuts
+pub mod Made

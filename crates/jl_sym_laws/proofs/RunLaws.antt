@@ -75,7 +75,7 @@ behind_ends o s (r ∷ rs) fault =
     bind_ext (at_place r.place (state_of (step o r.row s))) (λ t. behind o t rs fault) (λ t. behind o t rs None >>= λ u. settled fault u) (λ t. behind_ends o t rs fault)
     ∙ sym (bind_assoc (at_place r.place (state_of (step o r.row s))) (λ t. behind o t rs None) (λ u. settled fault u))
 
-never_timed : (fault : Fault) → Timed (never fault)
+pub never_timed : (fault : Fault) → Timed (never fault)
 never_timed fault = let at_once : 0 ≤ 0 = omega arith in record { writes = tt; demands = (at_once, tt); subject = tt; predicate = tt; object = tt; graph = tt; open_graph = tt }
 
 ended_timed : (m : Summary) (fault : Option Fault) → Timed m → Timed (ended m fault)

@@ -129,7 +129,7 @@ tail_within rows place Ending.Simple = tt
 tail_within rows place (Ending.Lang tag) = tag_within rows _ (is_tag tag) (at_once rows)
 tail_within rows place (Ending.Typed id) = (at_once rows, tt)
 
-term_within : (rows : ℕ) (place : Place) (r : Refs) (t : Term) → AreWithin rows (term_demands place r t)
+pub term_within : (rows : ℕ) (place : Place) (r : Refs) (t : Term) → AreWithin rows (term_demands place r t)
 term_within rows place r Term.Unset = (at_once rows, tt)
 term_within rows place r (Term.Iri i) = (at_once rows, (at_once rows, tt))
 term_within rows place r (Term.Bnode label) = tt

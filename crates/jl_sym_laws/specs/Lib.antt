@@ -7,5 +7,6 @@ pub mod SmallSteps
 pub mod Runs
 pub mod Compacting
 pub mod Sizes
+pub mod Cutting
 pub mod Laws
 pub mod WorkedRows

@@ -1,4 +1,5 @@
 //! What holds of summaries, for all of them: laws, each the contract of a function that does nothing.
+ghost use Rattle.jl_sym_laws.specs.Cutting.{MadeStays, ReadingsMade, StandsSized, CutKeeps, CutIsIn, FittedSummarises, FittedIsSmall, FittedIsMade};
 ghost use Rattle.jl_sym_laws.specs.Laws.{Decodes, BehindIsRun, SmallStepsSum, RowsSum, Composes, StaysTimed, UnitDoesNothing, UnitBefore, UnitAfter, GroupsAlike, ReadingsSum, ReadingsTimed, JoinedSum, SumsSummarise, JoinedSummarise};
 ghost use Rattle.jl_sym_laws.specs.Compacting.{SlotIsLastWrite, DropsWrite, DropsDemand, CompactingKeeps};
 ghost use Rattle.jl_sym_laws.specs.Sizes.{CompactedFits};
@@ -73,6 +74,30 @@ pub fn what_may_be_dropped()
 pub fn compacting_keeps()
     ensures acts { CompactingKeeps }
     ensures size { CompactedFits }
+{}
+
+/// What summaries of rows keep: moments that don't fall and don't lie behind the rows, and ids that count from 1. It holds
+/// of the summary of any reading, again when two are composed, and when one is cut and compacted.
+pub fn summaries_of_rows()
+    ensures reading { ReadingsMade }
+    ensures composed { MadeStays }
+    ensures fitted { FittedIsMade }
+{}
+
+/// Certain faults. A state that stands for some rows has tables of the options' sizes; on such a state a demand of an id
+/// outside of them is never met, so that it may be made the last one, and a write there fills no slot. What is left has
+/// ids inside of the tables alone.
+pub fn certain_faults()
+    ensures sized { StandsSized }
+    ensures acts { CutKeeps }
+    ensures inside { CutIsIn }
+{}
+
+/// Cut and compacted, a summary still summarises its reading, and its size has a bound that knows only the tables' sizes:
+/// at most 14 writes for each slot, and at most 4 demands for each and 8 more.
+pub fn summaries_stay_small()
+    ensures acts { FittedSummarises }
+    ensures size { FittedIsSmall }
 {}
 
 /// Runs of rows and what their summaries do to states, worked by hand: ids left out, terms and prefixes that were set

@@ -13,7 +13,7 @@ use Rattle.jl_sym_laws.specs.Summaries.{Summary, unit}
 use Rattle.jl_sym_laws.specs.Acting.{unmet, settled, act}
 use Rattle.jl_sym_laws.specs.Composing.{composed, Timed}
 use Rattle.jl_sym_laws.specs.Runs.{at_place, state_of, behind, behind_on, of_row, extended, never, ended}
-use Rattle.jl_sym_laws.specs.Laws.{BehindIsRun, UnitDoesNothing, UnitBefore, UnitAfter, GroupsAlike, ReadingsSum, ReadingsTimed, JoinedSum}
+use Rattle.jl_sym_laws.specs.Laws.{BehindIsRun, UnitDoesNothing, UnitBefore, UnitAfter, GroupsAlike, ReadingsSum, ReadingsTimed, JoinedSum, RowSums, FaultSums}
 use Rattle.jl_sym_laws.proofs.Composition.{composes}
 use Rattle.jl_sym_laws.proofs.Times.{stays_timed}
 use Rattle.jl_sym_laws.proofs.SmallLaws.{unit_timed}
@@ -135,3 +135,12 @@ run_fault o s (r ∷ rs) fault = step_fault r.place (step o r.row s) (λ t. run 
 
 pub behind_is_run : BehindIsRun
 behind_is_run o s R = run_fault o s R.items R.fault
+
+-- one row, and a fault alone
+pub row_sums : RowSums
+unfolding behind
+row_sums o r s = rows_sum o r s ∙ sym (bind_ok (at_place r.place (state_of (step o r.row s))))
+
+pub fault_sums : FaultSums
+unfolding unmet behind
+fault_sums o fault s = refl

@@ -1,5 +1,5 @@
 -- What holds of summaries, for all of them.
-use Rattle.std.specs.Prelude.{◌≡◌, Ok}
+use Rattle.std.specs.Prelude.{◌≡◌, Ok, [], ◌∷◌, Some, None}
 use Rattle.jl_base.specs.Results.{◌>>=◌, Reading, joined, refused}
 use Rattle.jl_base.specs.declared.place.Place.{Place}
 use Rattle.jl_base.specs.declared.place.Fault.{Fault}
@@ -14,7 +14,7 @@ use Rattle.jl_sym_laws.specs.Summaries.{Summary, unit}
 use Rattle.jl_sym_laws.specs.Acting.{act}
 use Rattle.jl_sym_laws.specs.Composing.{composed, Timed}
 use Rattle.jl_sym_laws.specs.SmallSteps.{Small, small_step, of_small}
-use Rattle.jl_sym_laws.specs.Runs.{at_place, state_of, behind_on, of_row, of_reading, Leads, Summarises, Sums}
+use Rattle.jl_sym_laws.specs.Runs.{at_place, state_of, behind_on, of_row, never, of_reading, Leads, Summarises, Sums}
 
 abbrev pub Decodes : Type 0
 Decodes = (o : StreamOptions) (R : Reading Placed Fault) (H : History) (s : State) → Stands o s H → Leads o H R (behind_on o s R)
@@ -60,3 +60,9 @@ JoinedSummarise = (o : StreamOptions) (R Q : Reading Placed Fault) (a b : Summar
 
 abbrev pub BehindIsRun : Type 0
 BehindIsRun = (o : StreamOptions) (s : State) (R : Reading Placed Fault) → (run_on o s R).fault ≡ refused (behind_on o s R)
+
+abbrev pub RowSums : Type 0
+RowSums = (o : StreamOptions) (r : Placed) → Sums o (record { items = r ∷ []; fault = None }) (of_row o r)
+
+abbrev pub FaultSums : Type 0
+FaultSums = (o : StreamOptions) (fault : Fault) → Sums o (record { items = []; fault = Some fault }) (never fault)

@@ -1,6 +1,6 @@
 //! What holds of summaries, for all of them: laws, each the contract of a function that does nothing.
 ghost use Rattle.jl_sym_laws.specs.Cutting.{MadeStays, ReadingsMade, StandsSized, CutKeeps, CutIsIn, FittedSummarises, FittedIsSmall, FittedIsMade};
-ghost use Rattle.jl_sym_laws.specs.Laws.{Decodes, BehindIsRun, SmallStepsSum, RowsSum, Composes, StaysTimed, UnitDoesNothing, UnitBefore, UnitAfter, GroupsAlike, ReadingsSum, ReadingsTimed, JoinedSum, SumsSummarise, JoinedSummarise};
+ghost use Rattle.jl_sym_laws.specs.Laws.{Decodes, BehindIsRun, SmallStepsSum, RowsSum, Composes, StaysTimed, UnitDoesNothing, UnitBefore, UnitAfter, GroupsAlike, ReadingsSum, ReadingsTimed, JoinedSum, RowSums, FaultSums, SumsSummarise, JoinedSummarise};
 ghost use Rattle.jl_sym_laws.specs.Compacting.{SlotIsLastWrite, DropsWrite, DropsDemand, CompactingKeeps};
 ghost use Rattle.jl_sym_laws.specs.Sizes.{CompactedFits};
 ghost use Rattle.jl_sym_laws.specs.WorkedRows.{ThreeAtOpening, ThreeAfterTwo, ThreeAfterEight, ImpliedIdsAcrossRuns, NothingToRepeat, WrongRowBehind, RepeatedTermKeepsItsText, PreviousPrefixAfterRewrite, TripleAfterGraphEnd, NestedTermWithoutEntry};
@@ -40,11 +40,14 @@ pub fn groups_alike()
 {}
 
 /// The summary of a reading, made by composing row by row, does on every state what the decoder's steps over these
-/// rows do, and then the fault that ends the reading; two summaries composed do what the two readings joined do.
+/// rows do, and then the fault that ends the reading; two summaries composed do what the two readings joined do. The
+/// least readings are one row, and a fault alone.
 pub fn runs_sum()
     ensures reading { ReadingsSum }
     ensures timed { ReadingsTimed }
     ensures joined { JoinedSum }
+    ensures row { RowSums }
+    ensures fault { FaultSums }
 {}
 
 /// A summary that does what the decoder's steps do leads, from each state that stands for a history, to what the

@@ -1,0 +1,12 @@
+pub mod RelativeIds
+pub mod Symbols
+pub mod Summaries
+pub mod Acting
+pub mod Composing
+pub mod SmallSteps
+pub mod Runs
+pub mod Compacting
+pub mod Sizes
+pub mod Cutting
+pub mod Laws
+pub mod WorkedRows

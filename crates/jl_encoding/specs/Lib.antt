@@ -1,0 +1,7 @@
+pub mod Sameness
+pub mod Splits
+pub mod Slots
+pub mod Terms
+pub mod Items
+pub mod Proper
+pub mod Encoding

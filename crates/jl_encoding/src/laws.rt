@@ -1,0 +1,14 @@
+//! What holds of the rows of items: laws, each the contract of a function that does nothing.
+ghost use Rattle.jl_encoding.specs.Encoding.{EncodingsDecode};
+ghost use Rattle.jl_encoding.specs.Items.{ItemsAreStated};
+
+/// The rows that items are given behind a history state these items, each behind what the history states, and no row
+/// has a fault.
+pub fn items_are_stated()
+    ensures { ItemsAreStated }
+{}
+
+/// The file of proper items that fit its form, each of at most 2^26 bytes, is decoded to these items without a fault.
+pub fn encodings_decode()
+    ensures { EncodingsDecode }
+{}

@@ -13,7 +13,7 @@ use Rattle.jl_spell.specs.Rows.{IsRow, row_of}
 use Rattle.jl_spell.specs.Frames.{body_of}
 use Rattle.jl_spell.proofs.RowLaws.{body_back}
 use Rattle.jl_encoding.specs.declared.form.Form.{Form}
-use Rattle.jl_encoding.specs.Encoding.{first_row, is_ended, cut, framed, IsNarrow}
+use Rattle.jl_encoding.specs.Encoding.{first_row, is_ended, cut, framed}
 use Rattle.jl_encoding.proofs.FileLaws.{all_of, row_of_place}
 
 abbrev pub AreRows : List Row → Type 0
@@ -59,6 +59,10 @@ framed_all form per (rs ∷ rss) = first_cut per (first_row form ∷ []) rs rss
 pub record IsFrame (rs : List Row) : Type 0 where
   pub rows : AreRows rs
   pub short : length (body_of rs) < 2 ^ 64
+
+-- an item's rows take no more than 2^26 bytes in their frame
+abbrev pub IsNarrow : List Row → Type 0
+IsNarrow rs = length (body_of rs) ≤ 2 ^ 26
 
 -- rows of items that are narrow
 pub record IsGood (rs : List Row) : Type 0 where

@@ -9,4 +9,8 @@ pub mod FileLaws
 pub mod CutLaws
 pub mod ProperLaws
 pub mod EncodingLaws
+pub mod Tallies
+pub mod CountLaws
+pub mod ClaimCounts
+pub mod FitLaws
 pub mod WorkedRows

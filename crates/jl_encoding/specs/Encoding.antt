@@ -1,5 +1,5 @@
 -- A file of items: its options row, the rows of each item, and how they stand in frames.
-use Rattle.std.specs.Prelude.{◌≡◌, ℕ, ◌+◌, ◌^◌, ◌≤◌, ◌==◌, ◌||◌, Bool, true, List, [], ◌∷◌, ◌++◌, length, map, reverse, None, Result, Ok, not, nat_lt, if◌then◌else◌}
+use Rattle.std.specs.Prelude.{◌≡◌, ℕ, ◌+◌, ◌^◌, ◌==◌, ◌||◌, Bool, true, List, [], ◌∷◌, ◌++◌, length, map, reverse, Option, None, Result, Ok, not, nat_lt, if◌then◌else◌}
 use Rattle.std.specs.List.{AllByRecursion}
 use Rattle.jl_base.specs.Results.{◌>>=◌}
 use Rattle.jl_base.specs.Terms.{Item}
@@ -11,6 +11,7 @@ use Rattle.jl_encoding.specs.declared.form.Form.{Form}
 use Rattle.jl_encoding.specs.Slots.{Refusal}
 use Rattle.jl_encoding.specs.Items.{item_rows, Fits}
 use Rattle.jl_encoding.specs.Proper.{IsProperItem}
+use Rattle.jl_encoding.specs.Wide.{wide_from}
 
 -- the physical type: TRIPLES or QUADS
 abbrev pub physical_of : Form → ℕ
@@ -55,11 +56,11 @@ file_of form per rss = frames_of (map body_of (framed form per rss))
 unfoldable pub encoding : Form → ℕ → List Item → Result (List ℕ) Refusal
 encoding form per is = rows_of form is >>= λ rss. Ok (file_of form per rss)
 
--- an item's entries and row take no more than 2^26 bytes in their frame
-abbrev pub IsNarrow : List Row → Type 0
-IsNarrow rs = length (body_of rs) ≤ 2 ^ 26
+-- the number of the first item that is too wide, from 1
+abbrev pub wide : Form → List Item → Option ℕ
+wide form is = wide_from (options_of form) (first_row form ∷ []) 1 is
 
--- The file of proper items that fit its form states these items, and has no fault.
+-- Proper items that fit the form, none of them too wide, have a file, and it states these items and has no fault.
 abbrev pub EncodingsDecode : Type 0
-EncodingsDecode = (form : Form) (per : ℕ) (is : List Item) (rss : List (List Row)) (file : List ℕ) → AllByRecursion (Fits (options_of form)) is → AllByRecursion IsProperItem is → rows_of form is ≡ Ok rss → AllByRecursion IsNarrow rss
-    → encoding form per is ≡ Ok file → decode file ≡ record { items = is; fault = None }
+EncodingsDecode = (form : Form) (per : ℕ) (is : List Item) → AllByRecursion (Fits (options_of form)) is → AllByRecursion IsProperItem is → wide form is ≡ None
+    → (file : List ℕ) × (encoding form per is ≡ Ok file) × (decode file ≡ record { items = is; fault = None })

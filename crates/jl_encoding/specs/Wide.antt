@@ -1,4 +1,5 @@
--- Items that are too wide for the tables: what their terms ask of each table, and how many different texts that is.
+-- Items that are too wide: their terms ask a table for more different texts than it has slots, or their rows take too
+-- many bytes.
 use Rattle.std.specs.Prelude.{ℕ, ◌+◌, ◌^◌, Bool, false, ◌||◌, List, [], ◌∷◌, ◌++◌, length, reverse, Option, Some, None, Result, Ok, Err, nat_lt, if◌then◌else◌}
 use Rattle.std.specs.Str.{bytes_eq}
 use Rattle.jl_base.specs.Terms.{Tail, Value, Item}
@@ -13,6 +14,7 @@ use Rattle.jl_encoding.specs.Splits.{prefix_of, name_of}
 use Rattle.jl_encoding.specs.Slots.{Refusal}
 use Rattle.jl_encoding.specs.Items.{item_rows}
 
+-- a text is among others
 abbrev pub has : List ℕ → List (List ℕ) → Bool
 has x [] = false
 has x (y ∷ ys) = bytes_eq x y || has x ys

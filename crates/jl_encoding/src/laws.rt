@@ -8,7 +8,8 @@ pub fn items_are_stated()
     ensures { ItemsAreStated }
 {}
 
-/// The file of proper items that fit its form, each of at most 2^26 bytes, is decoded to these items without a fault.
+/// Proper items that fit the form, and of which none is too wide, have a file, and it is decoded to these items without
+/// a fault.
 pub fn encodings_decode()
     ensures { EncodingsDecode }
 {}

@@ -1,12 +1,13 @@
 -- The rows of items behind the rows written before them.
-use Rattle.std.specs.Prelude.{◌≡◌, IsTrue, List, [], ◌∷◌, ◌++◌, Some, Result, Ok}
+use Rattle.std.specs.Prelude.{◌≡◌, IsTrue, List, [], ◌∷◌, ◌++◌, Option, Some, None, Result, Ok}
+use Rattle.std.specs.Option.{option_or}
 use Rattle.std.specs.List.{AllByRecursion}
 use Rattle.jl_base.specs.Results.{◌>>=◌}
 use Rattle.jl_base.specs.Terms.{Tail, Value, Item}
 use Rattle.jl_base.specs.declared.kind.Kind.{Kind}
 use Rattle.jl_rows.specs.Written.{StreamOptions, Row}
 use Rattle.jl_rows.specs.History.{History, seen_in}
-use Rattle.jl_rows.specs.Values.{Position, is_tag}
+use Rattle.jl_rows.specs.Values.{Position, is_tag, last_term}
 use Rattle.jl_rows.specs.Decoder.{is_triples, is_quads, meaning}
 use Rattle.jl_encoding.specs.Slots.{Refusal, State}
 use Rattle.jl_encoding.specs.Terms.{put_iri, put_at}
@@ -62,3 +63,19 @@ stated_by o (r ∷ H) = stated_by o H >>= λ xs. meaning o r H >>= λ ys. Ok (xs
 -- The rows of items state these items, and no fault.
 abbrev pub ItemsAreStated : Type 0
 ItemsAreStated = (o : StreamOptions) (H K : History) (xs is : List Item) → AllByRecursion (Fits o) is → AllByRecursion ItemHasTags is → stated_by o H ≡ Ok xs → with_items o H is ≡ Ok K → stated_by o K ≡ Ok (xs ++ is)
+
+-- the term of a statement at a position
+abbrev pub term_of : Position → Item → Option Value
+term_of Position.Subject (Item.Triple s p ob) = Some s
+term_of Position.Predicate (Item.Triple s p ob) = Some p
+term_of Position.Object (Item.Triple s p ob) = Some ob
+term_of Position.Subject (Item.Quad s p ob g) = Some s
+term_of Position.Predicate (Item.Quad s p ob g) = Some p
+term_of Position.Object (Item.Quad s p ob g) = Some ob
+term_of Position.Graph (Item.Quad s p ob g) = Some g
+term_of _ _ = None
+
+-- Behind an item's rows a statement's terms are the last ones at their positions; a namespace changes none. So the term
+-- that the next statement repeats is the previous statement's.
+abbrev pub LastTermsAreTheItems : Type 0
+LastTermsAreTheItems = (o : StreamOptions) (H : History) (i : Item) (rs : List Row) (x : Position) → ItemHasTags i → item_rows o H i ≡ Ok rs → last_term x (rs ++ H) ≡ option_or (term_of x i) (last_term x H)

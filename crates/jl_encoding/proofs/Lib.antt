@@ -1,0 +1,16 @@
+pub mod SameLaws
+pub mod SlotLaws
+pub mod Claims
+pub mod TextLaws
+pub mod IriLaws
+pub mod TermLaws
+pub mod ItemLaws
+pub mod FileLaws
+pub mod CutLaws
+pub mod ProperLaws
+pub mod EncodingLaws
+pub mod Tallies
+pub mod CountLaws
+pub mod ClaimCounts
+pub mod FitLaws
+pub mod WorkedRows

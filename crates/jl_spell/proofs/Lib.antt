@@ -1,0 +1,13 @@
+pub mod VarintLaws
+pub mod VarintSteps
+pub mod Shortest
+pub mod FieldLaws
+pub mod FrameLaws
+pub mod MessageLaws
+pub mod Parts
+pub mod Writing
+pub mod Passing
+pub mod Scalars
+pub mod TermLaws
+pub mod RowLaws
+pub mod WorkedRows

@@ -1,5 +1,5 @@
 -- From how far the lines have come to what was written, by each way of ending.
-use Rattle.std.proofs.Common.{◌≡◌, ℕ, ◌+◌, ◌≤◌, List, [], ◌++◌, length, Option, Some, None, Result, Ok, Err, refl, ap, sym, ◌∙◌, subst, append_assoc, append-nil, arith}
+use Rattle.std.proofs.Common.{◌≡◌, ℕ, ◌+◌, ◌≤◌, List, [], ◌++◌, Option, Some, None, Result, Ok, Err, refl, ap, sym, ◌∙◌, subst, append_assoc, append-nil, arith}
 use Rattle.jl_base.specs.Results.{Reading}
 use Rattle.jl_base.specs.Terms.{Item}
 use Rattle.jl_base.specs.Causes.{Rose}

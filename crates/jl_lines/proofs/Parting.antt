@@ -1,12 +1,11 @@
 -- The rows of a file by its frames and runs.
-use Rattle.std.proofs.Common.{◌≡◌, ℕ, ◌+◌, ◌-◌, ◌≤◌, List, [], ◌∷◌, length, slice_get, Option, Some, None, refl, ap, sym, ◌∙◌, arith}
-use Rattle.jl_base.specs.Results.{Reading}
+use Rattle.std.proofs.Common.{◌≡◌, ℕ, ◌+◌, ◌-◌, ◌≤◌, List, [], ◌∷◌, length, Option, refl, ap, sym, ◌∙◌, arith}
 use Rattle.jl_base.specs.declared.place.Fault.{Fault}
 use Rattle.jl_base.specs.declared.place.Run.{Run}
 use Rattle.jl_base.specs.declared.place.Span.{Span}
 use Rattle.jl_rows.specs.Files.{Placed, all_rows, ends_at, frames, rows_on}
 use Rattle.jl_rows.proofs.FileLaws.{file_next, whole_range}
-use Rattle.jl_frames.specs.Index.{Index, IsIndex, AreFrames, behind, end_of, from, last_end}
+use Rattle.jl_frames.specs.Index.{Index, IsIndex, AreFrames, behind, end_of, from}
 use Rattle.jl_frames.specs.Runs.{Cover, frames_before}
 use Rattle.jl_frames.proofs.IndexLemmas.{IsFrameOf, behind_all}
 use Rattle.jl_frames.proofs.RunLemmas.{IsRunOf, whole_cover}

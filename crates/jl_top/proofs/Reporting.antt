@@ -1,5 +1,5 @@
 -- The ways in which a report is not written.
-use Rattle.std.proofs.Common.{◌≡◌, ℕ, [], ◌∷◌, Option, Some, None, Result, Err, refl, ap, sym, subst, arith}
+use Rattle.std.proofs.Common.{◌≡◌, ℕ, [], ◌∷◌, Option, Some, None, Err, refl, sym, subst, arith}
 use Rattle.jl_base.specs.Sinks.{Held}
 use Rattle.jl_base.specs.Parts.{WasGiven}
 use Rattle.jl_base.specs.declared.place.Fault.{Fault}

@@ -4,7 +4,6 @@ use Rattle.jl_base.specs.Terms.{Item}
 use Rattle.jl_base.specs.declared.place.Fault.{Fault}
 use Rattle.jl_rows.specs.Seen.{options_seen}
 use Rattle.jl_rows.proofs.FileLaws.{short_file}
-use Rattle.jl_lines.specs.Counts.{none_counted, with_counted}
 use Rattle.jl_lines.proofs.Endings.{decode_empty, decode_bad, decode_first}
 use Rattle.jl_lines.proofs.count.count_all.Goals as goal
 

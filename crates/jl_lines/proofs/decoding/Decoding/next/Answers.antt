@@ -1,4 +1,4 @@
-use Rattle.std.proofs.Common.{◌+◌, ◌≤◌, length, slice_range, arith}
+use Rattle.std.proofs.Common.{◌+◌, ◌≤◌, slice_range, arith}
 use Rattle.std.proofs.lemmas.Result.{err_from_is_err_and}
 use Rattle.jl_rows.specs.Seen.{options_seen, row_seen}
 use Rattle.jl_rows.proofs.FileLaws.{rows_next, rows_done, rows_broken, row_at}

@@ -1,4 +1,4 @@
-use Rattle.std.proofs.Common.{[], ◌∷◌, ◌++◌, ◌∙◌, sym, refl}
+use Rattle.std.proofs.Common.{[], ◌∷◌, ◌++◌, sym}
 use Rattle.jl_base.specs.Terms.{Item}
 use Rattle.jl_base.specs.Spans.{text_of}
 use Rattle.jl_rows.specs.Seen.{options_seen}

@@ -1,10 +1,9 @@
-use Rattle.std.proofs.Common.{◌≡◌, ◌+◌, ◌-◌, ◌<◌, ◌≤◌, ◌∙◌, ◌^◌, length, refl, sym, arith}
+use Rattle.std.proofs.Common.{◌+◌, ◌-◌, ◌∙◌, refl, sym, arith}
 use Rattle.std.proofs.lemmas.Result.{err_from_is_err_and}
 use Rattle.jl_rows.specs.Seen.{options_seen}
 use Rattle.jl_state.specs.Lawful.{state_seen}
-use Rattle.jl_frames.specs.Index.{behind, end_of}
 use Rattle.jl_frames.proofs.IndexLemmas.{frame_of}
-use Rattle.jl_lines.specs.Going.{behind_frames, from_frame, made, rest_of}
+use Rattle.jl_lines.specs.Going.{behind_frames, made}
 use Rattle.jl_lines.proofs.GoingLemmas.{goes_same, goes_then, goes_breaks}
 use Rattle.jl_lines.proofs.Parting.{few_frames, into_frame, behind_frame}
 use Rattle.jl_lines.proofs.decoding.Decoding.run.Goals as goal

@@ -2,8 +2,7 @@ use Rattle.std.proofs.Common.{◌≡◌, ◌+◌, ◌*◌, ◌≤◌, ◌∙◌,
 use Rattle.std.proofs.lemmas.Result.{err_from_is_err_and}
 use Rattle.jl_rows.specs.Seen.{options_seen}
 use Rattle.jl_state.specs.Lawful.{state_seen}
-use Rattle.jl_frames.specs.Index.{behind}
-use Rattle.jl_frames.specs.Runs.{frames_before, runs_per_wave}
+use Rattle.jl_frames.specs.Runs.{runs_per_wave}
 use Rattle.jl_frames.proofs.RunLemmas.{run_in_cover}
 use Rattle.jl_lines.specs.Going.{behind_runs, made}
 use Rattle.jl_lines.proofs.GoingLemmas.{goes_same, goes_then, goes_breaks, goes_gave}

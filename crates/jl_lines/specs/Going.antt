@@ -31,7 +31,7 @@ pub record Made : Type 0 where
   pub buffer : List ℕ
   pub counts : Counts
 
-abbrev pub made : {W : Type 0} → Decoding W → Made
+abbrev pub made : Decoding → Made
 made decoding = record { buffer = decoding.buffer.items; counts = decoding.counts }
 
 -- nothing yet
@@ -39,7 +39,7 @@ abbrev pub none_made : Made
 none_made = record { buffer = []; counts = none_counted }
 
 -- One row: its step, and what is written of it behind the buffer; or its fault, and all as it was. Want of memory is free.
-abbrev pub TakesRow : {W : Type 0} → (Item → List ℕ) → List ℕ → Stepped → Made → Decoding W → Result (Unit {0}) Stop → Type 0
+abbrev pub TakesRow : (Item → List ℕ) → List ℕ → Stepped → Made → Decoding → Result (Unit {0}) Stop → Type 0
 TakesRow writes bytes said before after (Ok _) = (items : List Item) × (said ≡ Ok (state_seen bytes after.state, items))
     × (after.buffer.items ≡ before.buffer ++ flat_map writes items) × (after.counts ≡ with_counted before.counts items)
 TakesRow writes bytes said before after (Err (stops.Fault kind)) = (said ≡ Err kind) × (after.buffer.items ≡ before.buffer)
@@ -92,12 +92,21 @@ abbrev pub rest_of : List ℕ → Frame → ℕ → ℕ → Reading Placed Fault
 rest_of bytes frame before at = joined (placed_on frame.number before (rows (slice_range bytes at frame.end))) (from_frame bytes (frame.number + 1) frame.end)
 
 -- one row on, or to the end of the frame, or broken off
-abbrev pub ComesOn : {W : Type 0} → (Item → List ℕ) → List ℕ → StreamOptions → Frame → ℕ → Decoding W → ℕ → Decoding W → Option Held → Option Held → ℕ → ℕ → Result (Option ℕ) Broken → Type 0
+abbrev pub ComesOn : (Item → List ℕ) → List ℕ → StreamOptions → Frame → ℕ → Decoding → ℕ → Decoding → Option Held → Option Held → ℕ → ℕ → Result (Option ℕ) Broken → Type 0
 ComesOn writes bytes o frame before old at new held held' faults faults' (Ok (Some next)) =
     Goes writes o (state_seen bytes old.state) (made old) (rest_of bytes frame before at) (state_seen bytes new.state) (made new) (rest_of bytes frame (before + 1) next) held held'
 ComesOn writes bytes o frame before old at new held held' faults faults' (Ok None) =
     Goes writes o (state_seen bytes old.state) (made old) (rest_of bytes frame before at) (state_seen bytes new.state) (made new) (from_frame bytes (frame.number + 1) frame.end) held held'
 ComesOn writes bytes o frame before old at new held held' faults faults' (Err why) =
+    Breaks writes o (state_seen bytes old.state) (made old) (rest_of bytes frame before at) new.buffer.items held held' faults faults' why
+
+-- on to a place of the frame behind so many rows, or to its end, or broken off
+abbrev pub ComesFar : (Item → List ℕ) → List ℕ → StreamOptions → Frame → ℕ → Decoding → ℕ → Decoding → Option Held → Option Held → ℕ → ℕ → Result (Option (ℕ × ℕ)) Broken → Type 0
+ComesFar writes bytes o frame before old at new held held' faults faults' (Ok (Some r)) =
+    Goes writes o (state_seen bytes old.state) (made old) (rest_of bytes frame before at) (state_seen bytes new.state) (made new) (rest_of bytes frame r.1 r.0) held held'
+ComesFar writes bytes o frame before old at new held held' faults faults' (Ok None) =
+    Goes writes o (state_seen bytes old.state) (made old) (rest_of bytes frame before at) (state_seen bytes new.state) (made new) (from_frame bytes (frame.number + 1) frame.end) held held'
+ComesFar writes bytes o frame before old at new held held' faults faults' (Err why) =
     Breaks writes o (state_seen bytes old.state) (made old) (rest_of bytes frame before at) new.buffer.items held held' faults faults' why
 
 -- the rows behind the first k frames of an index

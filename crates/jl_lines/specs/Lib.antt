@@ -1,4 +1,5 @@
 pub mod Counts
 pub mod Spaces
 pub mod Writes
+pub mod Writings
 pub mod Going

@@ -9,7 +9,7 @@ ghost use Rattle.jl_lines.specs.Counts.{CountsItems, Tallies};
 
 use crate::decoding::{Broken, Counts, Decoding};
 use crate::nowhere::Nowhere;
-use crate::writing::Nothing;
+use crate::writing::Writing;
 use jl_base::{Fault, Space};
 use jl_frames::{Frames, Plan, index};
 use jl_rows::{Head, Options, head_at};
@@ -83,7 +83,7 @@ fn count_under(
     let Ok(plan) = Plan::cut(alloc, frames, per) else {
         return Err(Refused::NoMemory);
     };
-    let Ok(mut decoding) = Decoding::opening(alloc, bytes, options, Nothing) else {
+    let Ok(mut decoding) = Decoding::opening(alloc, bytes, options, Writing::Nothing) else {
         return Err(Refused::NoMemory);
     };
     match decoding.file(alloc, bytes, frames, &plan, &mut Nowhere) {

@@ -7,6 +7,7 @@ ghost use Rattle.jl_rows.specs.Seen.{options_seen, row_seen, HasRow};
 ghost use Rattle.jl_state.specs.Steps.{step};
 ghost use Rattle.jl_state.specs.Lawful.{state_seen, IsLawful};
 ghost use Rattle.jl_lines.specs.Going.{Gives, TakesRow, made, none_made};
+ghost use Rattle.jl_lines.specs.Writings.{written};
 
 use crate::writing::Writing;
 use jl_base::{Fault, Sink, write_all};
@@ -26,11 +27,11 @@ pub struct Counts {
 
 /// A state, and what was made of the items before it. The buffer has what was written but not given yet.
 #[derive(Debug, Drop)]
-pub struct Decoding<W> {
+pub struct Decoding {
     pub state: State,
     pub buffer: Vec<u8>,
     pub counts: Counts,
-    pub writing: W,
+    pub writing: Writing,
 }
 
 /// Why no further row is taken.
@@ -42,19 +43,20 @@ pub enum Broken {
     NoMemory,
 }
 
-impl<W: Writing + Drop> Decoding<W> {
+impl Decoding {
     /// The state before the first row, under options that passed the checks of a first row, and nothing made yet.
     pub fn opening(
         alloc: Global,
         bytes: &[u8],
         options: &Options,
-        writing: W,
-    ) -> Result<Decoding<W>, AllocError>
+        writing: Writing,
+    ) -> Result<Decoding, AllocError>
         requires { ArePassed bytes.now options.now }
         ensures exact { IfOk result (λ d. state_seen bytes.now d.state ≡ opening (options_seen bytes.now options.now)) }
         ensures lawful { IfOk result (λ d. IsLawful bytes.now d.state) }
         ensures options { IfOk result (λ d. d.state.options ≡ options.now) }
         ensures none { IfOk result (λ d. made d ≡ none_made) }
+        ensures writing { IfOk result (λ d. d.writing ≡ writing) }
     {
         let state = State::opening(alloc, bytes, options)?;
         let counts = Counts {
@@ -75,9 +77,10 @@ impl<W: Writing + Drop> Decoding<W> {
         requires inside { HasRow bytes.now row.now }
         requires short { length bytes.now ≤ 2 ^ 30 }
         requires few { self.old.counts.statements + self.old.counts.namespaces < 2 ^ 30 }
-        ensures exact { TakesRow W.writes bytes.now (step (options_seen bytes.now self.old.state.options) (row_seen bytes.now row.now) (state_seen bytes.now self.old.state)) (made self.old) self.new result }
+        ensures exact { TakesRow (written self.old.writing) bytes.now (step (options_seen bytes.now self.old.state.options) (row_seen bytes.now row.now) (state_seen bytes.now self.old.state)) (made self.old) self.new result }
         ensures lawful { OnOk result (IsLawful bytes.now self.new.state) }
         ensures options { self.new.state.options ≡ self.old.state.options }
+        ensures writing { self.new.writing ≡ self.old.writing }
         ensures few { self.new.counts.statements + self.new.counts.namespaces ≤ self.old.counts.statements + self.old.counts.namespaces + 1 }
     {
         match self.state.step(alloc, bytes, row)? {
@@ -102,6 +105,7 @@ impl<W: Writing + Drop> Decoding<W> {
         ensures later { K.faults out.old ≤ K.faults out.new }
         ensures state { self.new.state ≡ self.old.state }
         ensures counts { self.new.counts ≡ self.old.counts }
+        ensures writing { self.new.writing ≡ self.old.writing }
     {
         if write_all(out, &self.buffer).is_err() {
             return Err(Broken::WriteFault);
@@ -110,17 +114,9 @@ impl<W: Writing + Drop> Decoding<W> {
         Ok(())
     }
 
-    // Gives the sink the buffer once it is long.
+    // The buffer is to be given.
     #[inline]
-    pub(crate) fn give_long<K: Sink>(&mut self, out: &mut K) -> Result<(), Broken>
-        ensures gives { Gives self.old.buffer.items self.new.buffer.items (K.held out.old) (K.held out.new) (K.faults out.old) (K.faults out.new) result }
-        ensures later { K.faults out.old ≤ K.faults out.new }
-        ensures state { self.new.state ≡ self.old.state }
-        ensures counts { self.new.counts ≡ self.old.counts }
-    {
-        if self.buffer.len() < LONG {
-            return Ok(());
-        }
-        self.give(out)
+    pub(crate) fn is_long(&self) -> bool {
+        self.buffer.len() >= LONG
     }
 }

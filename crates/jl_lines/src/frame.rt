@@ -1,12 +1,13 @@
 //! The decoding of a frame, row by row.
-ghost use Rattle.std.specs.Prelude.{◌≡◌, ◌+◌, ◌-◌, ◌<◌, ◌≤◌, ◌^◌, IfOk, IfSome, OnOk, length, slice_range};
+ghost use Rattle.std.specs.Prelude.{◌≡◌, ℕ, Option, ◌+◌, ◌-◌, ◌<◌, ◌≤◌, ◌^◌, IfOk, IfSome, OnOk, length, slice_range};
 ghost use Rattle.jl_rows.specs.Files as files;
 ghost use Rattle.jl_rows.specs.Seen.{options_seen};
 ghost use Rattle.jl_state.specs.Lawful.{state_seen, IsLawful};
-ghost use Rattle.jl_lines.specs.Going.{Comes, ComesOn, from_frame, made, rest_of};
+ghost use Rattle.jl_lines.specs.Going.{Comes, ComesFar, ComesOn, from_frame, made, rest_of};
+ghost use Rattle.jl_lines.specs.Writings.{written};
+ghost use Rattle.jl_base.specs.Sinks.{Held};
 
 use crate::decoding::{Broken, Decoding};
-use crate::writing::Writing;
 use jl_base::{Fault, Kind, Place, Sink};
 use jl_rows::{Row, next_row_into};
 use jl_state::Stop;
@@ -33,10 +34,10 @@ fn malformed(frame: Frame, before: u32, kind: Kind) -> Broken
     })
 }
 
-impl<W: Writing + Drop> Decoding<W> {
+impl Decoding {
     // The next row of a frame from a place in it on, behind so many rows: the place behind the row, or None where the
     // frame has none.
-    fn next<K: Sink>(
+    fn next(
         &mut self,
         alloc: Global,
         bytes: &[u8],
@@ -44,7 +45,6 @@ impl<W: Writing + Drop> Decoding<W> {
         frame: Frame,
         before: u32,
         row: &mut Row,
-        out: &mut K,
     ) -> Result<Option<usize>, Broken>
         requires lawful { IsLawful bytes.now self.old.state }
         requires short { length bytes.now ≤ 2 ^ 30 }
@@ -52,12 +52,12 @@ impl<W: Writing + Drop> Decoding<W> {
         requires inside { frame.end ≤ length bytes.now }
         requires rows { before < 2 ^ 32 - 1 }
         requires few { self.old.counts.statements + self.old.counts.namespaces ≤ at }
-        ensures comes { ComesOn W.writes bytes.now (options_seen bytes.now self.old.state.options) frame before self.old at self.new (K.held out.old) (K.held out.new) (K.faults out.old) (K.faults out.new) result }
+        ensures comes { (h : Option Held) → (f : ℕ) → ComesOn (written self.old.writing) bytes.now (options_seen bytes.now self.old.state.options) frame before self.old at self.new h h f f result }
         ensures within { IfOk result (λ found. IfSome found (λ next. (at < next) × (next ≤ frame.end) × (self.new.counts.statements + self.new.counts.namespaces ≤ next))) }
         ensures few { OnOk result (self.new.counts.statements + self.new.counts.namespaces ≤ frame.end) }
-        ensures later { K.faults out.old ≤ K.faults out.new }
         ensures lawful { OnOk result (IsLawful bytes.now self.new.state) }
         ensures options { self.new.state.options ≡ self.old.state.options }
+        ensures writing { self.new.writing ≡ self.old.writing }
     {
         let next = match next_row_into(bytes, at, frame.end, row) {
             Ok(Some(next)) => next,
@@ -65,15 +65,49 @@ impl<W: Writing + Drop> Decoding<W> {
             Err(kind) => return Err(malformed(frame, before, kind)),
         };
         match self.row(alloc, bytes, row) {
-            Ok(()) => {}
-            Err(Stop::Fault(kind)) => return Err(malformed(frame, before, kind)),
-            Err(Stop::NoMemory) => return Err(Broken::NoMemory),
+            Ok(()) => Ok(Some(next)),
+            Err(Stop::Fault(kind)) => Err(malformed(frame, before, kind)),
+            Err(Stop::NoMemory) => Err(Broken::NoMemory),
         }
-        self.give_long(out)?;
-        Ok(Some(next))
     }
 
-    // The items of a frame whose body begins at a place.
+    // The rows of a frame from a place in it on, behind so many rows: the place where the buffer became long and how many
+    // rows stand before it, or None at the frame's end.
+    fn rows(
+        &mut self,
+        alloc: Global,
+        bytes: &[u8],
+        at: usize,
+        frame: Frame,
+        before: u32,
+    ) -> Result<Option<(usize, u32)>, Broken>
+        requires lawful { IsLawful bytes.now self.old.state }
+        requires short { length bytes.now ≤ 2 ^ 30 }
+        requires start { at ≤ frame.end }
+        requires inside { frame.end ≤ length bytes.now }
+        requires counted { before ≤ at }
+        requires few { self.old.counts.statements + self.old.counts.namespaces ≤ at }
+        ensures comes { (h : Option Held) → (f : ℕ) → ComesFar (written self.old.writing) bytes.now (options_seen bytes.now self.old.state.options) frame before self.old at self.new h h f f result }
+        ensures within { IfOk result (λ found. IfSome found (λ r. (at < r.0) × (r.0 ≤ frame.end) × (r.1 ≤ r.0) × (self.new.counts.statements + self.new.counts.namespaces ≤ r.0))) }
+        ensures few { OnOk result (self.new.counts.statements + self.new.counts.namespaces ≤ frame.end) }
+        ensures lawful { OnOk result (IsLawful bytes.now self.new.state) }
+        ensures options { self.new.state.options ≡ self.old.state.options }
+        ensures writing { self.new.writing ≡ self.old.writing }
+    {
+        let mut place = at;
+        let mut count = before;
+        let mut row = Row::GraphEnd;
+        'by_row: while let Some(next) = self.next(alloc, bytes, place, frame, count, &mut row)? {
+            place = next;
+            count += 1;
+            if self.is_long() {
+                return Ok(Some((place, count)));
+            }
+        }
+        Ok(None)
+    }
+
+    // The items of a frame whose body begins at a place. A long buffer is given.
     pub(crate) fn frame<K: Sink>(
         &mut self,
         alloc: Global,
@@ -87,22 +121,23 @@ impl<W: Writing + Drop> Decoding<W> {
         requires start { at ≤ frame.end }
         requires inside { frame.end ≤ length bytes.now }
         requires few { self.old.counts.statements + self.old.counts.namespaces ≤ at }
-        ensures comes { Comes W.writes (options_seen bytes.now self.old.state.options) (state_seen bytes.now self.old.state) (made self.old) (rest_of bytes.now frame 0 at)
+        ensures comes { Comes (written self.old.writing) (options_seen bytes.now self.old.state.options) (state_seen bytes.now self.old.state) (made self.old) (rest_of bytes.now frame 0 at)
             (state_seen bytes.now self.new.state) (made self.new) (from_frame bytes.now (frame.number + 1) frame.end)
             (K.held out.old) (K.held out.new) (K.faults out.old) (K.faults out.new) result }
         ensures few { OnOk result (self.new.counts.statements + self.new.counts.namespaces ≤ frame.end) }
         ensures later { K.faults out.old ≤ K.faults out.new }
         ensures lawful { OnOk result (IsLawful bytes.now self.new.state) }
         ensures options { self.new.state.options ≡ self.old.state.options }
+        ensures writing { self.new.writing ≡ self.old.writing }
     {
         let mut place = at;
         let mut before = 0;
-        let mut row = Row::GraphEnd;
-        'by_row: while let Some(next) = self.next(
-            alloc, bytes, place, frame, before, &mut row, out,
+        'by_stretch: while let Some((next, count)) = self.rows(
+            alloc, bytes, place, frame, before,
         )? {
+            self.give(out)?;
             place = next;
-            before += 1;
+            before = count;
         }
         Ok(())
     }

@@ -6,15 +6,15 @@ ghost use Rattle.jl_rows.specs.Files.{all_rows};
 ghost use Rattle.jl_rows.specs.Seen.{options_seen};
 ghost use Rattle.jl_state.specs.Lawful.{state_seen, IsLawful};
 ghost use Rattle.jl_lines.specs.Going.{Comes, behind_frames, behind_runs, made};
+ghost use Rattle.jl_lines.specs.Writings.{written};
 
 use crate::decoding::{Broken, Decoding};
 use crate::frame::Frame;
-use crate::writing::Writing;
 use jl_base::{Run, Sink};
 use jl_frames::{Frames, Plan};
 use std::alloc::Global;
 
-impl<W: Writing + Drop> Decoding<W> {
+impl Decoding {
     // The items of a run's frames.
     fn run<K: Sink>(
         &mut self,
@@ -30,13 +30,14 @@ impl<W: Writing + Drop> Decoding<W> {
         requires first { 0 < run.first_frame }
         requires within { run.first_frame - 1 + run.frames ≤ length frames.now.bodies }
         requires few { self.old.counts.statements + self.old.counts.namespaces ≤ behind frames.now.bodies (run.first_frame - 1) }
-        ensures comes { Comes W.writes (options_seen bytes.now self.old.state.options) (state_seen bytes.now self.old.state) (made self.old) (behind_frames bytes.now frames.now.bodies (run.first_frame - 1))
+        ensures comes { Comes (written self.old.writing) (options_seen bytes.now self.old.state.options) (state_seen bytes.now self.old.state) (made self.old) (behind_frames bytes.now frames.now.bodies (run.first_frame - 1))
             (state_seen bytes.now self.new.state) (made self.new) (behind_frames bytes.now frames.now.bodies (run.first_frame - 1 + run.frames))
             (K.held out.old) (K.held out.new) (K.faults out.old) (K.faults out.new) result }
         ensures few { OnOk result (self.new.counts.statements + self.new.counts.namespaces ≤ behind frames.now.bodies (run.first_frame - 1 + run.frames)) }
         ensures later { K.faults out.old ≤ K.faults out.new }
         ensures lawful { OnOk result (IsLawful bytes.now self.new.state) }
         ensures options { self.new.state.options ≡ self.old.state.options }
+        ensures writing { self.new.writing ≡ self.old.writing }
     {
         let first = run.first_frame - 1;
         for i in first..first + run.frames {
@@ -65,13 +66,14 @@ impl<W: Writing + Drop> Decoding<W> {
         requires cover { Cover frames.now.bodies 0 plan.now (length frames.now.bodies) }
         requires wave { w < groups_of runs_per_wave (length plan.now) }
         requires few { self.old.counts.statements + self.old.counts.namespaces ≤ behind frames.now.bodies (frames_before plan.now (wave_of plan.now w).0) }
-        ensures comes { Comes W.writes (options_seen bytes.now self.old.state.options) (state_seen bytes.now self.old.state) (made self.old) (behind_runs bytes.now frames.now.bodies plan.now (wave_of plan.now w).0)
+        ensures comes { Comes (written self.old.writing) (options_seen bytes.now self.old.state.options) (state_seen bytes.now self.old.state) (made self.old) (behind_runs bytes.now frames.now.bodies plan.now (wave_of plan.now w).0)
             (state_seen bytes.now self.new.state) (made self.new) (behind_runs bytes.now frames.now.bodies plan.now (wave_of plan.now w).1)
             (K.held out.old) (K.held out.new) (K.faults out.old) (K.faults out.new) result }
         ensures few { OnOk result (self.new.counts.statements + self.new.counts.namespaces ≤ behind frames.now.bodies (frames_before plan.now (wave_of plan.now w).1)) }
         ensures later { K.faults out.old ≤ K.faults out.new }
         ensures lawful { OnOk result (IsLawful bytes.now self.new.state) }
         ensures options { self.new.state.options ≡ self.old.state.options }
+        ensures writing { self.new.writing ≡ self.old.writing }
     {
         let (lo, hi) = plan.wave(w);
         for i in lo..hi {
@@ -94,7 +96,7 @@ impl<W: Writing + Drop> Decoding<W> {
         requires indexed { IsIndex bytes.now frames.now }
         requires cover { Cover frames.now.bodies 0 plan.now (length frames.now.bodies) }
         requires few { self.old.counts.statements + self.old.counts.namespaces ≡ 0 }
-        ensures comes { Comes W.writes (options_seen bytes.now self.old.state.options) (state_seen bytes.now self.old.state) (made self.old) (all_rows bytes.now)
+        ensures comes { Comes (written self.old.writing) (options_seen bytes.now self.old.state.options) (state_seen bytes.now self.old.state) (made self.old) (all_rows bytes.now)
             (state_seen bytes.now self.new.state) (made self.new) (record { items = []; fault = None })
             (K.held out.old) (K.held out.new) (K.faults out.old) (K.faults out.new) result }
         ensures later { K.faults out.old ≤ K.faults out.new }

@@ -8,7 +8,7 @@ ghost use Rattle.jl_rows.specs.Seen.{options_seen};
 ghost use Rattle.jl_lines.specs.Writes.{Ends, WritesLines};
 
 use crate::decoding::{Broken, Decoding};
-use crate::writing::{Lines, Writing};
+use crate::writing::Writing;
 use jl_base::{Fault, Sink, Space, write_all};
 use jl_frames::{Frames, Plan, index};
 use jl_rows::{Head, Options, head_at};
@@ -65,14 +65,14 @@ fn write_under<K: Sink>(
     let Ok(plan) = Plan::cut(alloc, frames, per) else {
         return Ended::NoMemory;
     };
-    let Ok(mut decoding) = Decoding::opening(alloc, bytes, options, Lines) else {
+    let Ok(mut decoding) = Decoding::opening(alloc, bytes, options, Writing::Lines) else {
         return Ended::NoMemory;
     };
     let came = decoding.file(alloc, bytes, frames, &plan, out);
     decoding.end(came, out)
 }
 
-impl<W: Writing + Drop> Decoding<W> {
+impl Decoding {
     // Gives the sink what is left of the buffer, where the lines in it are to be given.
     fn end<K: Sink>(&self, came: Result<(), Broken>, out: &mut K) -> Ended
         ensures ends { Ends self.now.buffer.items came (K.held out.old) (K.held out.new) (K.faults out.old) (K.faults out.new) result }

@@ -29,7 +29,6 @@ pub enum Stated {
 
 impl State {
     // An entry of a table.
-    #[inline(always)]
     fn enter(&mut self, bytes: &[u8], table: Table, id: u32, text: Span) -> Result<Stated, Stop>
         requires lawful { IsLawful bytes.now self.old }
         requires inside { IsInside bytes.now text }
@@ -73,7 +72,6 @@ impl State {
         self.options.physical == 3 && self.open_graph.is_none()
     }
 
-    #[inline(always)]
     fn triple(&mut self, alloc: Global, bytes: &[u8], t: &RawTriple) -> Result<Stated, Stop>
         requires lawful { IsLawful bytes.now self.old }
         requires inside { rows.HasTriple bytes.now t.now }
@@ -98,7 +96,6 @@ impl State {
         Ok(Stated::Statement)
     }
 
-    #[inline(never)]
     fn quad(&mut self, alloc: Global, bytes: &[u8], t: &RawQuad) -> Result<Stated, Stop>
         requires lawful { IsLawful bytes.now self.old }
         requires inside { rows.HasRow bytes.now (Row.Quad t.now) }
@@ -121,7 +118,6 @@ impl State {
         Ok(Stated::Statement)
     }
 
-    #[inline(never)]
     fn graph_start(
         &mut self,
         alloc: Global,
@@ -152,7 +148,6 @@ impl State {
         Ok(Stated::Nothing)
     }
 
-    #[inline(never)]
     fn graph_end(&mut self, bytes: &[u8]) -> Result<Stated, Stop>
         requires lawful { IsLawful bytes.now self.old }
         requires short { length bytes.now ≤ 2 ^ 30 }
@@ -169,7 +164,6 @@ impl State {
         Ok(Stated::Nothing)
     }
 
-    #[inline(never)]
     fn namespace(&mut self, bytes: &[u8], name: Span, iri: Option<RawIri>) -> Result<Stated, Stop>
         requires lawful { IsLawful bytes.now self.old }
         requires inside { IsInside bytes.now name }
@@ -209,7 +203,6 @@ impl State {
     }
 
     /// Takes one row: what it states, and the state behind it. Only a triple term takes memory, a box for its terms.
-    #[inline(always)]
     pub fn step(&mut self, alloc: Global, bytes: &[u8], row: &Row) -> Result<Stated, Stop>
         requires lawful { IsLawful bytes.now self.old }
         requires inside { rows.HasRow bytes.now row.now }

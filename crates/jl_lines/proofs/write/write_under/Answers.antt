@@ -13,7 +13,7 @@ returns g c =
     let s = opening o in
     let begun = c.in-Ok-opening.ensures in
     let R = all_rows bytes in
-    let comes = rw (begun.options, begun.exact, begun.none) at c.file-came.ensures.comes in
+    let comes = rw (begun.options, begun.exact, begun.none, begun.writing) at c.file-came.ensures.comes in
     let ended = ended_so o s R (g.K.Sink.held c.args.out.now) (g.K.Sink.held c.file-came.new.out) (g.K.Sink.held c.end.new.out) (g.K.Sink.faults c.args.out.now) (g.K.Sink.faults c.file-came.new.out) (g.K.Sink.faults c.end.new.out)
     (state_seen bytes c.file-came.new.self.state) (made c.file-came.new.self) c.file-came.result c.end.result comes c.file-came.ensures.later c.end.ensures.ends c.end.ensures.later in
     rw (opening_runs o R) at ended

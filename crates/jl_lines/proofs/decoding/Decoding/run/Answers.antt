@@ -3,6 +3,7 @@ use Rattle.std.proofs.lemmas.Result.{err_from_is_err_and}
 use Rattle.jl_rows.specs.Seen.{options_seen}
 use Rattle.jl_state.specs.Lawful.{state_seen}
 use Rattle.jl_frames.proofs.IndexLemmas.{frame_of}
+use Rattle.jl_lines.specs.Writings.{written}
 use Rattle.jl_lines.specs.Going.{behind_frames, made}
 use Rattle.jl_lines.proofs.GoingLemmas.{goes_same, goes_then, goes_breaks}
 use Rattle.jl_lines.proofs.Parting.{few_frames, into_frame, behind_frame}
@@ -15,11 +16,12 @@ overflow_add-i-end g c =
 
 pub loop-i-init : goal.loop-i-init
 loop-i-init g c = record {
-  went = goes_same g.W.Writing.writes (options_seen c.args.bytes.now c.args.self.now.state.options) (state_seen c.args.bytes.now c.args.self.now.state) (made c.args.self.now) _ _ _ refl;
+  went = goes_same (written c.args.self.now.writing) (options_seen c.args.bytes.now c.args.self.now.state.options) (state_seen c.args.bytes.now c.args.self.now.state) (made c.args.self.now) _ _ _ refl;
   few = c.requires.few;
   later = omega arith;
   lawful = c.requires.lawful;
   options = refl;
+  writing = refl;
 }
 
 pub overflow_add-end : goal.overflow_add-end
@@ -39,10 +41,10 @@ pub returns-in_err-frame-clause-comes : goal.returns-in_err-frame-clause-comes
 returns-in_err-frame-clause-comes g c =
     let is = frame_of c.args.bytes.now c.args.frames.now.bodies _ c.loop-i.i c.frame-body.result c.requires.indexed.places c.frame-body.ensures in
     let into = into_frame c.args.bytes.now c.args.frames.now.bodies c.loop-i.i c.frame-body.result is in
-    let broke = rw (c.loop-i.invariant.options, sym into) at c.in_err-frame.ensures.comes in
+    let broke = rw (c.loop-i.invariant.options, c.loop-i.invariant.writing, sym into) at c.in_err-frame.ensures.comes in
     let p = err_from_is_err_and c.from_residual.result c.from_residual.ensures.1 in
     rw (p.1, p.2)
-    (goes_breaks g.W.Writing.writes (options_seen c.args.bytes.now c.args.self.now.state.options) (state_seen c.args.bytes.now c.args.self.now.state) (made c.args.self.now) (behind_frames c.args.bytes.now c.args.frames.now.bodies (c.args.run.first_frame - 1))
+    (goes_breaks (written c.args.self.now.writing) (options_seen c.args.bytes.now c.args.self.now.state.options) (state_seen c.args.bytes.now c.args.self.now.state) (made c.args.self.now) (behind_frames c.args.bytes.now c.args.frames.now.bodies (c.args.run.first_frame - 1))
     (state_seen c.args.bytes.now c.loop-i.self.state) (made c.loop-i.self) (behind_frames c.args.bytes.now c.args.frames.now.bodies c.loop-i.i) c.frame.new.self.buffer.items
     (g.K.Sink.held c.args.out.now) (g.K.Sink.held c.loop-i.out) (g.K.Sink.held c.frame.new.out) (g.K.Sink.faults c.args.out.now) (g.K.Sink.faults c.loop-i.out) (g.K.Sink.faults c.frame.new.out) c.in_err-frame.field-0.0
     c.loop-i.invariant.later c.loop-i.invariant.went broke)
@@ -52,10 +54,10 @@ loop-i-preserved g c =
     let is = frame_of c.args.bytes.now c.args.frames.now.bodies _ c.loop-i.i c.frame-body.result c.requires.indexed.places c.frame-body.ensures in
     let into = into_frame c.args.bytes.now c.args.frames.now.bodies c.loop-i.i c.frame-body.result is in
     let out = behind_frame c.args.bytes.now c.args.frames.now.bodies c.loop-i.i c.frame-body.result is in
-    let came = rw (c.loop-i.invariant.options, sym into, out) at c.in_ok-frame.ensures.comes in
+    let came = rw (c.loop-i.invariant.options, c.loop-i.invariant.writing, sym into, out) at c.in_ok-frame.ensures.comes in
     let later = c.in_ok-frame.ensures.later in
     record {
-      went = goes_then g.W.Writing.writes (options_seen c.args.bytes.now c.args.self.now.state.options) (state_seen c.args.bytes.now c.args.self.now.state) (made c.args.self.now) (behind_frames c.args.bytes.now c.args.frames.now.bodies (c.args.run.first_frame - 1))
+      went = goes_then (written c.args.self.now.writing) (options_seen c.args.bytes.now c.args.self.now.state.options) (state_seen c.args.bytes.now c.args.self.now.state) (made c.args.self.now) (behind_frames c.args.bytes.now c.args.frames.now.bodies (c.args.run.first_frame - 1))
           (state_seen c.args.bytes.now c.loop-i.self.state) (made c.loop-i.self) (behind_frames c.args.bytes.now c.args.frames.now.bodies c.loop-i.i)
           (state_seen c.args.bytes.now c.frame.new.self.state) (made c.frame.new.self) (behind_frames c.args.bytes.now c.args.frames.now.bodies (c.loop-i.i + 1))
           (g.K.Sink.held c.args.out.now) (g.K.Sink.held c.loop-i.out) (g.K.Sink.held c.frame.new.out) c.loop-i.invariant.went came;
@@ -63,4 +65,5 @@ loop-i-preserved g c =
       later = omega (arith, later, c.loop-i.invariant.later);
       lawful = c.in_ok-frame.ensures.lawful;
       options = c.in_ok-frame.ensures.options ∙ c.loop-i.invariant.options;
+      writing = c.in_ok-frame.ensures.writing ∙ c.loop-i.invariant.writing;
     }

@@ -2,16 +2,18 @@ use Rattle.std.proofs.Common.{◌≡◌, ◌+◌, ◌≤◌}
 use Rattle.jl_frames.specs.Index.{behind}
 use Rattle.jl_rows.specs.Seen.{options_seen}
 use Rattle.jl_state.specs.Lawful.{state_seen, IsLawful}
+use Rattle.jl_lines.specs.Writings.{written}
 use Rattle.jl_lines.specs.Going.{Goes, behind_frames, made}
 use Rattle.jl_lines.proofs.decoding.Decoding.run.Given as goal
 
 -- from the run's first frame to the one that has i frames before it
 abbrev pub invariant-loop-i : goal.invariant-loop-i
 invariant-loop-i g l = record {
-  went : Goes g.W.Writing.writes (options_seen l.bytes l.fn.self.state.options) (state_seen l.bytes l.fn.self.state) (made l.fn.self) (behind_frames l.bytes l.frames.bodies l.first)
+  went : Goes (written l.fn.self.writing) (options_seen l.bytes l.fn.self.state.options) (state_seen l.bytes l.fn.self.state) (made l.fn.self) (behind_frames l.bytes l.frames.bodies l.first)
       (state_seen l.bytes l.self.state) (made l.self) (behind_frames l.bytes l.frames.bodies l.i) (g.K.Sink.held l.fn.out) (g.K.Sink.held l.out);
   few : l.self.counts.statements + l.self.counts.namespaces ≤ behind l.frames.bodies l.i;
   later : g.K.Sink.faults l.fn.out ≤ g.K.Sink.faults l.out;
   lawful : IsLawful l.bytes l.self.state;
   options : l.self.state.options ≡ l.fn.self.state.options;
+  writing : l.self.writing ≡ l.fn.self.writing;
 }

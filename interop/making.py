@@ -4,6 +4,7 @@ The files are right: an id names a filled slot, and a term is left out only wher
 a maker keeps which slots are filled and what the last ids are, but no text; what a file says is for reading.py to find.
 """
 import jelly_pb2 as jelly
+from google.protobuf.internal.encoder import _VarintBytes as varint
 
 TRIPLES, QUADS, GRAPHS = 1, 2, 3
 TABLES = ("name", "prefix", "datatype")
@@ -16,14 +17,6 @@ PLAIN_STRING = "".join(c for c in ANY if c not in "\0\ufffe\uffff")
 PLAIN_COMMENT = ANY.replace("'", "")
 PLAIN_IRI = 'abcXYZ019_-./#:%~"{}|^`\'' + "\1\t\x1f\x7f\x80é\u2028日\ufeff😀\U0010ffff"
 LETTERS = "abcXYZ"
-
-
-def varint(number):
-    out = b""
-    while number > 127:
-        out += bytes([number % 128 + 128])
-        number //= 128
-    return out + bytes([number])
 
 
 # Fields that no message has, one of each wire type: what a later schema may add.

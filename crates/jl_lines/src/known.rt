@@ -22,7 +22,7 @@ pub fn push_iri_of(
     requires name { IsSound bytes.now name }
     ensures { OnOk result (out.new.items ≡ out.old.items ++ iri_text (text_in bytes.now prefix ++ text_in bytes.now name)) }
 {
-    if prefix.is_clean() && name.is_clean() {
+    if prefix.is_plain() && name.is_plain() {
         return push_clean_iri_at(out, bytes, prefix.span(), name.span());
     }
     push_iri(out, prefix.text(bytes), name.text(bytes))

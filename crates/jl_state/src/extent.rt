@@ -100,6 +100,15 @@ impl Extent {
         self.at / MARK != ESCAPED
     }
 
+    /// Nothing is to be known of the text: an IRI has it as it is, and it isn't xsd:string. Of two texts this is one
+    /// test.
+    #[inline]
+    pub fn is_plain(self) -> bool
+        ensures { IsTrue result ↔ (mark_of self ≡ 0) }
+    {
+        self.at < MARK
+    }
+
     /// The text is xsd:string.
     #[inline]
     pub fn is_xsd_string(self) -> bool

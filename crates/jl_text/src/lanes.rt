@@ -7,7 +7,8 @@ use std::simd::prelude::*;
 
 const WIDE_LANES: usize = 64;
 
-const LANES: usize = 16;
+/// The bytes that are tested for a label that is shorter still.
+pub(crate) const LANES: usize = 16;
 
 const HALF_LANES: usize = 8;
 
@@ -73,6 +74,21 @@ pub(crate) fn is_raw_label_front(text: &[u8], at: usize, len: usize) -> bool
     let from_zero = v - u8x32::splat(b'0');
     let is_other = from_a.simd_ge(u8x32::splat(26)) & from_zero.simd_ge(u8x32::splat(10));
     let stops = (is_other | v.simd_eq(u8x32::splat(b'X'))).to_bitmask();
+    stops.trailing_zeros() as usize >= len
+}
+
+/// The same of half a block, which most labels have room in.
+#[inline(always)]
+pub(crate) fn is_raw_short_label(text: &[u8], at: usize, len: usize) -> bool
+    requires room { at + LANES ≤ length text.now }
+    requires within { len ≤ LANES }
+    ensures { IsTrue result → AreRaw Terminal.BlankNodeLabel text.now at (at + len) }
+{
+    let v = u8x16::from_slice(&text[at..]);
+    let from_a = (v | u8x16::splat(0x20)) - u8x16::splat(b'a');
+    let from_zero = v - u8x16::splat(b'0');
+    let is_other = from_a.simd_ge(u8x16::splat(26)) & from_zero.simd_ge(u8x16::splat(10));
+    let stops = (is_other | v.simd_eq(u8x16::splat(b'X'))).to_bitmask();
     stops.trailing_zeros() as usize >= len
 }
 

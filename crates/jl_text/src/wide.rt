@@ -1,10 +1,10 @@
 //! The same parts at their places in a file. A text is copied as 32 or 64 bytes, which the file nearly always has from
 //! its place on, and then cut: a copy of one fixed size has no branch on the text's length.
-ghost use Rattle.std.specs.Prelude.{◌≡◌, ◌+◌, ◌≤◌, ◌++◌, length, take, codes, OnOk, IsTrue};
+ghost use Rattle.std.specs.Prelude.{◌≡◌, ℕ, ◌+◌, ◌≤◌, ◌++◌, length, take, codes, OnOk, IsTrue};
 ghost use Rattle.jl_base.specs.Spans.{text_of, IsInside};
 ghost use Rattle.jl_text.specs.Line.{iri_escaped, iri_text, string_escaped, string_text, label_written};
 
-use crate::lanes::{SHORT, is_raw_label_front, is_raw_string_front};
+use crate::lanes::{LANES, SHORT, is_raw_label_front, is_raw_short_label, is_raw_string_front};
 use crate::term::{push_clean_iri, push_datatype, push_label, push_string, push_tag};
 use jl_base::Span;
 use std::alloc::AllocError;
@@ -59,8 +59,32 @@ fn push_long(out: &mut Vec<u8>, bytes: &[u8], span: Span) -> Result<(), AllocErr
     requires room { span.at + LONG ≤ length bytes.now }
     ensures { OnOk result (out.new.items ≡ out.old.items ++ text_of bytes.now span) }
 {
+    if span.len as usize <= SHORT {
+        return push_short(out, bytes, span);
+    }
     let copy = u8x64::from_slice(&bytes[span.at as usize..]).to_array();
     push_front(out, &copy, span.len as usize)
+}
+
+#[inline(always)]
+fn later(a: u64, b: u64) -> u64
+    ensures first { a ≤ result }
+    ensures second { b ≤ result }
+    ensures least { (c : ℕ) → a ≤ c → b ≤ c → result ≤ c }
+{
+    if a < b { b } else { a }
+}
+
+// Whether the bytes can be read that are copied for a prefix and a name. One test serves both places.
+#[inline(always)]
+fn are_within(bytes: &[u8], prefix: Span, name: Span) -> bool
+    requires prefix { IsInside bytes.now prefix }
+    requires name { IsInside bytes.now name }
+    ensures prefix { IsTrue result → (prefix.len ≤ LONG) × (prefix.at + LONG ≤ length bytes.now) }
+    ensures name { IsTrue result → (name.len ≤ SHORT) × (name.at + SHORT ≤ length bytes.now) }
+{
+    let last = later(prefix.at, name.at) as usize;
+    prefix.len as usize <= LONG && name.len as usize <= SHORT && bytes.len() - last >= LONG
 }
 
 /// Appends the IRI whose text is a prefix and a name that an IRI has as they are.
@@ -78,8 +102,7 @@ pub fn push_clean_iri_at(
     ensures { OnOk result
         (out.new.items ≡ out.old.items ++ iri_text (text_of bytes.now prefix ++ text_of bytes.now name)) }
 {
-    let are_within = is_within(bytes, prefix, LONG) && is_within(bytes, name, SHORT);
-    if !are_within {
+    if !are_within(bytes, prefix, name) {
         return push_clean_iri(out, text_at(bytes, prefix), text_at(bytes, name));
     }
     out.push(b'<')?;
@@ -123,9 +146,13 @@ fn is_plain_label(bytes: &[u8], label: Span) -> bool
     ensures short { IsTrue result → (label.len ≤ SHORT) × (label.at + SHORT ≤ length bytes.now) }
     ensures clean { IsTrue result → label_written (text_of bytes.now label) ≡ text_of bytes.now label }
 {
-    label.len > 0
-        && is_within(bytes, label, SHORT)
-        && is_raw_label_front(bytes, label.at as usize, label.len as usize)
+    if label.len == 0 || !is_within(bytes, label, SHORT) {
+        return false;
+    }
+    if label.len as usize <= LANES {
+        return is_raw_short_label(bytes, label.at as usize, label.len as usize);
+    }
+    is_raw_label_front(bytes, label.at as usize, label.len as usize)
 }
 
 /// Appends a blank node by its label.

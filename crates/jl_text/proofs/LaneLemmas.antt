@@ -1,6 +1,6 @@
 -- From the mask of a load to the bytes under it.
-use Rattle.std.proofs.Common.{◌≡◌, ℕ, ◌+◌, ◌%◌, ◌^◌, ◌≤◌, Bool, true, false, not, List, map, length, get_or, nat_eq, leb, Fits, w8, sym, ap, ◌∙◌, arith, inl, inr}
-use Rattle.std.proofs.lemmas.Bool.{agree_below, agree_below_at, not-false, eqb-true, leb-true, cases_eq}
+use Rattle.std.proofs.Common.{◌≡◌, ℕ, ◌+◌, ◌%◌, ◌^◌, ◌<◌, ◌≤◌, Bool, true, false, not, List, map, length, get_or, nat_eq, leb, Fits, w8, sym, ap, ◌∙◌, arith, inl, inr}
+use Rattle.std.proofs.lemmas.Bool.{agree_below, agree_below_at, not-false, eqb-true, leb-true, le-leb, cases_eq}
 use Rattle.std.proofs.lemmas.List.{length-map}
 use Rattle.std.proofs.lemmas.Simd.{map-map, mask_l-mod, length-chunk, none_from_empty_mask, trailing_mask_l, run_in_chunk_fails}
 use lib.Count.{count_trailing_zeros}
@@ -39,3 +39,10 @@ module _ (t : Terminal) (text : List ℕ) (at n : ℕ) (z : List ℕ) (f : ℕ �
             let first = trailing_mask_l stops 64 (chunk at n text) (omega (arith, length-chunk at n text room)) (omega arith) in
             λ k from to. raw_from_passed k (run_in_chunk_fails stops text at n _ 0 room first k from (omega (arith, ap (count_trailing_zeros 64) mask)))
       ]
+
+  -- the bytes before the lowest bit, and all of them, where it lies behind them
+  pub raw_to_first : (len : ℕ) → len ≡ count_trailing_zeros 64 (mask_l (map (top 7) z) % 2 ^ 64) → len ≤ n → AreRaw t text at (at + len)
+  raw_to_first len is within = raw_below_first len within (le-leb len _ (omega (arith, is)))
+
+  pub raw_before_first : n < count_trailing_zeros 64 (mask_l (map (top 7) z) % 2 ^ 64) → AreRaw t text at (at + n)
+  raw_before_first past = raw_below_first n (omega arith) (le-leb n _ (omega (arith, past)))

@@ -37,6 +37,24 @@ fn is_raw_block(text: &[u8], at: usize) -> bool
     (is_control | is_echar).to_bitmask() == 0
 }
 
+// How many bytes of a block stand for themselves before the first that doesn't.
+#[inline(always)]
+fn raw_front(text: &[u8], at: usize) -> usize
+    requires { at + LANES ≤ length text.now }
+    ensures size { result ≤ LANES }
+    ensures raw { AreRaw Terminal.StringLiteral text.now at (at + result) }
+{
+    let v = u8x16::from_slice(&text[at..]);
+    let is_control = v.simd_lt(u8x16::splat(b' ')) | v.simd_eq(u8x16::splat(0x7f));
+    let is_quoted = v.simd_eq(u8x16::splat(b'\\')) | v.simd_eq(u8x16::splat(b'"'));
+    let stops = (is_control | is_quoted).to_bitmask();
+    let first = stops.trailing_zeros() as usize;
+    if first > LANES {
+        return LANES;
+    }
+    first
+}
+
 #[inline(always)]
 fn is_raw_half_block(text: &[u8], at: usize) -> bool
     requires { at + HALF_LANES ≤ length text.now }
@@ -113,7 +131,19 @@ pub(crate) fn past_string_blocks(text: &[u8], at: usize) -> usize
     'by_block: while text.len() - end >= LANES && is_raw_block(text, end) {
         end += LANES;
     }
-    end
+    past_last_string_block(text, end)
+}
+
+// Passes over the raw bytes at the front of the next block, or over the whole rest, where the last block is raw.
+#[inline(always)]
+fn past_last_string_block(text: &[u8], at: usize) -> usize
+    requires { at ≤ length text.now }
+    ensures { RawUpTo Terminal.StringLiteral text.now at result }
+{
+    if text.len() - at < LANES {
+        return at;
+    }
+    at + raw_front(text, at)
 }
 
 /// Whether all bytes stand for themselves. The last block may overlap the one before.

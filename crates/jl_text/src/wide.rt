@@ -146,13 +146,39 @@ fn is_plain_label(bytes: &[u8], label: Span) -> bool
     ensures short { IsTrue result → (label.len ≤ SHORT) × (label.at + SHORT ≤ length bytes.now) }
     ensures clean { IsTrue result → label_written (text_of bytes.now label) ≡ text_of bytes.now label }
 {
-    if label.len == 0 || !is_within(bytes, label, SHORT) {
-        return false;
-    }
-    if label.len as usize <= LANES {
-        return is_raw_short_label(bytes, label.at as usize, label.len as usize);
-    }
-    is_raw_label_front(bytes, label.at as usize, label.len as usize)
+    label.len > 0
+        && is_within(bytes, label, SHORT)
+        && is_raw_label_front(bytes, label.at as usize, label.len as usize)
+}
+
+// A label without escapes that is shorter still, as most are, with two bytes of the file before it.
+#[tactic(auto, using(crate::proofs::WideLemmas::clean_label_at))]
+#[inline(always)]
+fn is_plain_short_label(bytes: &[u8], label: Span) -> bool
+    requires { IsInside bytes.now label }
+    ensures before { IsTrue result → 2 ≤ label.at }
+    ensures short { IsTrue result → (label.len ≤ LANES) × (label.at + SHORT ≤ length bytes.now) }
+    ensures clean { IsTrue result → label_written (text_of bytes.now label) ≡ text_of bytes.now label }
+{
+    label.len > 0
+        && label.at >= 2
+        && is_within(bytes, label, SHORT)
+        && label.len as usize <= LANES
+        && is_raw_short_label(bytes, label.at as usize, label.len as usize)
+}
+
+// The label is copied with the two bytes before it, and these are then `_:`.
+#[inline(always)]
+fn push_signed_label(out: &mut Vec<u8>, bytes: &[u8], label: Span) -> Result<(), AllocError>
+    requires before { 2 ≤ label.at }
+    requires short { label.len ≤ LANES }
+    requires room { label.at + SHORT ≤ length bytes.now }
+    ensures { OnOk result (out.new.items ≡ out.old.items ++ (codes "_:" ++ text_of bytes.now label)) }
+{
+    let mut copy = u8x32::from_slice(&bytes[label.at as usize - 2..]).to_array();
+    copy[0] = b'_';
+    copy[1] = b':';
+    push_front(out, &copy, 2 + label.len as usize)
 }
 
 /// Appends a blank node by its label.
@@ -162,6 +188,9 @@ pub fn push_label_at(out: &mut Vec<u8>, bytes: &[u8], label: Span) -> Result<(),
     ensures { OnOk result
         (out.new.items ≡ out.old.items ++ (codes "_:" ++ label_written (text_of bytes.now label))) }
 {
+    if is_plain_short_label(bytes, label) {
+        return push_signed_label(out, bytes, label);
+    }
     if !is_plain_label(bytes, label) {
         return push_label(out, text_at(bytes, label));
     }

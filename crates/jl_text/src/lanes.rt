@@ -1,5 +1,5 @@
 //! Many bytes at once: whether they all stand for themselves.
-ghost use Rattle.std.specs.Prelude.{◌≡◌, ◌+◌, ◌≤◌, length, IsTrue};
+ghost use Rattle.std.specs.Prelude.{◌≡◌, ◌+◌, ◌<◌, ◌≤◌, length, IsTrue};
 ghost use Rattle.jl_text.specs.Escapes.{AreRaw, RawUpTo};
 
 use crate::escape::{Terminal, is_clean};
@@ -134,14 +134,28 @@ pub(crate) fn past_string_blocks(text: &[u8], at: usize) -> usize
     past_last_string_block(text, end)
 }
 
-// Passes over the raw bytes at the front of the next block, or over the whole rest, where the last block is raw.
+// Passes over the rest, which is shorter than a block, where the text's last block is raw.
+#[inline(always)]
+fn past_string_end(text: &[u8], at: usize) -> usize
+    requires within { at ≤ length text.now }
+    requires short { length text.now < at + LANES }
+    ensures { RawUpTo Terminal.StringLiteral text.now at result }
+{
+    let len = text.len();
+    if len >= LANES && is_raw_block(text, len - LANES) {
+        return len;
+    }
+    at
+}
+
+// Passes over the raw bytes at the front of the next block, or over a raw rest.
 #[inline(always)]
 fn past_last_string_block(text: &[u8], at: usize) -> usize
     requires { at ≤ length text.now }
     ensures { RawUpTo Terminal.StringLiteral text.now at result }
 {
     if text.len() - at < LANES {
-        return at;
+        return past_string_end(text, at);
     }
     at + raw_front(text, at)
 }

@@ -54,12 +54,15 @@ pub fn push_iri(out: &mut Vec<u8>, prefix: &[u8], name: &[u8]) -> Result<(), All
     Ok(())
 }
 
+// The length from which a text is gone through once, stretch by stretch, and not asked first whether it is all raw.
+const LONG: usize = 128;
+
 #[tactic(auto, using(crate::proofs::CleanLemmas::clean_string))]
 #[inline]
 fn push_string_part(out: &mut Vec<u8>, text: &[u8]) -> Result<(), AllocError>
     ensures { OnOk result (out.new.items ≡ out.old.items ++ string_escaped text.now) }
 {
-    if is_clean_string(text) {
+    if text.len() < LONG && is_clean_string(text) {
         out.extend_from_slice(text)
     } else {
         push_escaped(out, Terminal::StringLiteral, text)

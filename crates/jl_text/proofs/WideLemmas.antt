@@ -1,6 +1,6 @@
 -- A text among the bytes that are copied for it.
-use Rattle.std.proofs.Common.{◌≡◌, ℕ, suc, ◌+◌, ◌-◌, ◌<◌, ◌≤◌, List, [], ◌∷◌, length, take, drop, slice_range, slice_set, ap, ◌∙◌, arith, length-drop, length-take, drop-drop}
-use Rattle.std.proofs.lemmas.List.{take-take, drop-take}
+use Rattle.std.proofs.Common.{◌≡◌, ℕ, zero, suc, ◌+◌, ◌-◌, ◌<◌, ◌≤◌, List, [], ◌∷◌, length, take, drop, get_or, slice_range, ap, sym, ◌∙◌, arith, length-drop, length-take}
+use Rattle.std.proofs.lemmas.List.{take-take, drop_more, drop_all}
 use Rattle.jl_text.specs.declared.escape.Terminal.{Terminal}
 use Rattle.jl_text.specs.declared.escape.Terminal.TheVariants.{StringLiteral, BlankNodeLabel}
 use Rattle.jl_text.specs.Line.{string_escaped, label_written}
@@ -16,23 +16,23 @@ front_of_copy bytes at len width within =
 plus_two : (n : ℕ) → 2 + n ≡ suc (suc n)
 plus_two n = omega arith
 
--- two bytes written over the first two
-over_two : (xs : List ℕ) (a b n : ℕ) → 2 ≤ length xs → take (2 + n) (slice_set (slice_set xs 0 a) 1 b) ≡ a ∷ b ∷ take n (drop 2 xs)
-over_two [] a b n some = absurd (omega (arith, some))
-over_two (x ∷ []) a b n some = absurd (omega (arith, some))
-over_two (x ∷ y ∷ xs) a b n some = ap (λ k. take k (a ∷ b ∷ xs)) (plus_two n)
+-- the items of a list, one by one
+abbrev items : ℕ → ℕ → List ℕ → List ℕ
+items k zero xs = []
+items k (suc n) xs = get_or xs k 0 ∷ items (k + 1) n xs
 
-behind_two : (bytes : List ℕ) (at : ℕ) → 2 ≤ at → drop 2 (take 32 (drop (at - 2) bytes)) ≡ take 30 (drop at bytes)
-behind_two bytes at before =
-    let same : at - 2 + 2 ≡ at = omega arith in
-    drop-take 2 30 (drop (at - 2) bytes) ∙ ap (take 30) (drop-drop 2 (at - 2) bytes ∙ ap (λ n. drop n bytes) same)
+all_items : (n k : ℕ) (xs : List ℕ) → length xs ≡ k + n → drop k xs ≡ items k n xs
+all_items zero k xs is = drop_all k xs (omega (arith, is))
+all_items (suc n) k xs is = drop_more xs k 0 (omega (arith, is)) ∙ ap (λ (ys : List ℕ). get_or xs k 0 ∷ ys) (all_items n (k + 1) xs (omega (arith, is)))
 
-pub signed_front : (bytes : List ℕ) (at len : ℕ) → 2 ≤ at → len ≤ 16 → at + 32 ≤ length bytes
-    → take (2 + len) (slice_set (slice_set (take 32 (drop (at - 2) bytes)) 0 95) 1 58) ≡ 95 ∷ 58 ∷ slice_range bytes at (at + len)
-signed_front bytes at len before short room =
-    let long : 2 ≤ length (take 32 (drop (at - 2) bytes)) = omega (arith, length-take 32 (drop (at - 2) bytes), length-drop (at - 2) bytes) in
-    over_two (take 32 (drop (at - 2) bytes)) 95 58 len long
-    ∙ ap (λ (text : List ℕ). 95 ∷ 58 ∷ text) (ap (take len) (behind_two bytes at before) ∙ front_of_copy bytes at len 30 (omega arith))
+-- a label's bytes, one by one behind `_:`
+pub signed_front : (bytes : List ℕ) (at len : ℕ) → len ≤ 16 → at + 16 ≤ length bytes
+    → take (2 + len) (95 ∷ 58 ∷ items 0 16 (take 16 (drop at bytes))) ≡ 95 ∷ 58 ∷ slice_range bytes at (at + len)
+signed_front bytes at len short room =
+    let long : length (take 16 (drop at bytes)) ≡ 0 + 16 = omega (arith, length-take 16 (drop at bytes), length-drop at bytes) in
+    ap (λ n. take n (95 ∷ 58 ∷ items 0 16 (take 16 (drop at bytes)))) (plus_two len)
+    ∙ ap (λ (ys : List ℕ). 95 ∷ 58 ∷ take len ys) (sym (all_items 16 0 (take 16 (drop at bytes)) long))
+    ∙ ap (λ (ys : List ℕ). 95 ∷ 58 ∷ ys) (front_of_copy bytes at len 16 short)
 
 clean_at : (t : Terminal) (bytes : List ℕ) (at len : ℕ) → at + len ≤ length bytes → AreRaw t bytes at (at + len)
     → escaped t (slice_range bytes at (at + len)) ≡ slice_range bytes at (at + len)

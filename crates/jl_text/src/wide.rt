@@ -151,33 +151,31 @@ fn is_plain_label(bytes: &[u8], label: Span) -> bool
         && is_raw_label_front(bytes, label.at as usize, label.len as usize)
 }
 
-// A label without escapes that is shorter still, as most are, with two bytes of the file before it.
+// A label without escapes that is shorter still, as most are.
 #[tactic(auto, using(crate::proofs::WideLemmas::clean_label_at))]
 #[inline(always)]
 fn is_plain_short_label(bytes: &[u8], label: Span) -> bool
     requires { IsInside bytes.now label }
-    ensures before { IsTrue result → 2 ≤ label.at }
-    ensures short { IsTrue result → (label.len ≤ LANES) × (label.at + SHORT ≤ length bytes.now) }
+    ensures short { IsTrue result → (label.len ≤ LANES) × (label.at + LANES ≤ length bytes.now) }
     ensures clean { IsTrue result → label_written (text_of bytes.now label) ≡ text_of bytes.now label }
 {
     label.len > 0
-        && label.at >= 2
-        && is_within(bytes, label, SHORT)
-        && label.len as usize <= LANES
+        && is_within(bytes, label, LANES)
         && is_raw_short_label(bytes, label.at as usize, label.len as usize)
 }
 
-// The label is copied with the two bytes before it, and these are then `_:`.
+// The label's bytes are copied behind its `_:`, and both are then one append.
 #[inline(always)]
 fn push_signed_label(out: &mut Vec<u8>, bytes: &[u8], label: Span) -> Result<(), AllocError>
-    requires before { 2 ≤ label.at }
     requires short { label.len ≤ LANES }
-    requires room { label.at + SHORT ≤ length bytes.now }
+    requires room { label.at + LANES ≤ length bytes.now }
     ensures { OnOk result (out.new.items ≡ out.old.items ++ (codes "_:" ++ text_of bytes.now label)) }
 {
-    let mut copy = u8x32::from_slice(&bytes[label.at as usize - 2..]).to_array();
-    copy[0] = b'_';
-    copy[1] = b':';
+    let v = u8x16::from_slice(&bytes[label.at as usize..]).to_array();
+    let copy = [
+        b'_', b':', v[0], v[1], v[2], v[3], v[4], v[5], v[6], v[7], v[8], v[9], v[10], v[11],
+        v[12], v[13], v[14], v[15],
+    ];
     push_front(out, &copy, 2 + label.len as usize)
 }
 

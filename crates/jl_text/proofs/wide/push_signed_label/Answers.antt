@@ -5,5 +5,5 @@ use Rattle.jl_text.proofs.wide.push_signed_label.Goals as goal
 
 pub returns : goal.returns
 returns c =
-    let front = signed_front c.args.bytes.now c.args.label.at c.args.label.len c.requires.before c.requires.short c.requires.room in
+    let front = signed_front c.args.bytes.now c.args.label.at c.args.label.len c.requires.short c.requires.room in
     on_ok_weaker c.push_front.result (λ e. e ∙ ap (λ (text : List ℕ). c.args.out.now.items ++ text) front) c.push_front.ensures

@@ -66,6 +66,37 @@ fn push_long(out: &mut Vec<u8>, bytes: &[u8], span: Span) -> Result<(), AllocErr
     push_front(out, &copy, span.len as usize)
 }
 
+// A short text's bytes are copied behind the `<`, and both are then one append.
+#[inline(always)]
+fn push_opened_short(out: &mut Vec<u8>, bytes: &[u8], span: Span) -> Result<(), AllocError>
+    requires short { span.len ≤ SHORT }
+    requires room { span.at + SHORT ≤ length bytes.now }
+    ensures { OnOk result (out.new.items ≡ out.old.items ++ (codes "<" ++ text_of bytes.now span)) }
+{
+    let v = u8x32::from_slice(&bytes[span.at as usize..]).to_array();
+    let copy = [
+        b'<', v[0], v[1], v[2], v[3], v[4], v[5], v[6], v[7], v[8], v[9], v[10], v[11], v[12],
+        v[13], v[14], v[15], v[16], v[17], v[18], v[19], v[20], v[21], v[22], v[23], v[24], v[25],
+        v[26], v[27], v[28], v[29], v[30], v[31],
+    ];
+    push_front(out, &copy, 1 + span.len as usize)
+}
+
+// The start of an IRI.
+#[inline(always)]
+fn push_opened(out: &mut Vec<u8>, bytes: &[u8], prefix: Span) -> Result<(), AllocError>
+    requires long { prefix.len ≤ LONG }
+    requires room { prefix.at + LONG ≤ length bytes.now }
+    ensures { OnOk result (out.new.items ≡ out.old.items ++ (codes "<" ++ text_of bytes.now prefix)) }
+{
+    if prefix.len as usize <= SHORT {
+        return push_opened_short(out, bytes, prefix);
+    }
+    out.push(b'<')?;
+    push_long(out, bytes, prefix)?;
+    Ok(())
+}
+
 #[inline(always)]
 fn later(a: u64, b: u64) -> u64
     ensures first { a ≤ result }
@@ -105,8 +136,7 @@ pub fn push_clean_iri_at(
     if !are_within(bytes, prefix, name) {
         return push_clean_iri(out, text_at(bytes, prefix), text_at(bytes, name));
     }
-    out.push(b'<')?;
-    push_long(out, bytes, prefix)?;
+    push_opened(out, bytes, prefix)?;
     push_short(out, bytes, name)?;
     out.push(b'>')?;
     Ok(())

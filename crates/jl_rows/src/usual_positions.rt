@@ -83,6 +83,17 @@ fn default_at(bytes: &[u8], at: usize, end: usize, term: &mut Option<RawTerm>) -
     Some(behind(span))
 }
 
+// Forgets a term. Where none is held nothing is written: in a row that repeats a term, none was held in the row before
+// either, mostly.
+#[inline(always)]
+fn clear(term: &mut Option<RawTerm>)
+    ensures { term.new ≡ None }
+{
+    if term.is_some() {
+        *term = None;
+    }
+}
+
 /// A subject, a predicate or an object, which are the groups 0, 1 and 2.
 #[inline(always)]
 pub fn position(
@@ -110,7 +121,7 @@ pub fn position(
             return literal_at(bytes, at, end, group, term);
         }
     }
-    *term = None;
+    clear(term);
     Some(at)
 }
 
@@ -133,6 +144,6 @@ pub fn graph(bytes: &[u8], at: usize, end: usize, term: &mut Option<RawTerm>) ->
             return default_at(bytes, at, end, term);
         }
     }
-    *term = None;
+    clear(term);
     Some(at)
 }

@@ -16,8 +16,20 @@ fn tag(field: u32, wire: u64) -> u64
 }
 
 // Appends two varints. Where memory isn't found, nothing is appended.
-#[inline]
+#[inline(always)]
 fn push_both(out: &mut Vec<u8>, first: u64, second: u64) -> Result<(), AllocError>
+    ensures ok { OnOk result (out.new.items ≡ out.old.items ++ (varint_of first ++ varint_of second)) }
+    ensures err { OnErr result (out.new.items ≡ out.old.items) }
+{
+    if first < 128 && second < 128 {
+        out.extend_from_slice(&[first as u8, second as u8])?;
+        return Ok(());
+    }
+    push_long(out, first, second)
+}
+
+// The same, one after the other.
+fn push_long(out: &mut Vec<u8>, first: u64, second: u64) -> Result<(), AllocError>
     ensures ok { OnOk result (out.new.items ≡ out.old.items ++ (varint_of first ++ varint_of second)) }
     ensures err { OnErr result (out.new.items ≡ out.old.items) }
 {

@@ -20,4 +20,4 @@ pub use laws::{
 pub use message::{
     iri_size, push_entry, push_iri, push_simple_literal, push_tagged_literal, push_typed_literal,
 };
-pub use number::{push_varint, varint_len};
+pub use number::{push_varint, varint, varint_len};

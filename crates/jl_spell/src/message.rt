@@ -1,35 +1,34 @@
 //! Messages of a row: IRIs, literals and entries.
 ghost use Rattle.std.specs.Prelude.{◌≡◌, ◌<◌, ◌≤◌, ◌+◌, ◌^◌, ◌++◌, length, OnErr, OnOk};
-ghost use Rattle.jl_rows.specs.Seen.{ids_seen};
 ghost use Rattle.jl_rows.specs.Written.{Ending, Row};
 ghost use Rattle.jl_spell.specs.Fields.{Bytes, Number, field_of};
 ghost use Rattle.jl_spell.specs.Messages.{unless_0, unless_empty};
 ghost use Rattle.jl_spell.specs.Rows.{entry_number, iri_of, literal_of, row_of};
 
 use crate::field::{front_size, number_size, push_bytes, push_front, push_number};
-use jl_rows::{RawIri, Table};
+use jl_rows::Table;
 use std::alloc::AllocError;
 
 // A number that is in no 'one of'.
 #[inline]
-fn push_unless_0(out: &mut Vec<u8>, field: u32, number: u32) -> Result<(), AllocError>
+fn push_unless_0(out: &mut Vec<u8>, field: u32, number: u64) -> Result<(), AllocError>
     ensures { OnOk result (out.new.items ≡ out.old.items ++ unless_0 field number) }
 {
     if number == 0 {
         return Ok(());
     }
-    push_number(out, field, u64::from(number))
+    push_number(out, field, number)
 }
 
 #[inline]
-fn size_unless_0(field: u32, number: u32) -> usize
+fn size_unless_0(field: u32, number: u64) -> usize
     ensures exact { result ≡ length (unless_0 field number) }
     ensures within { result ≤ 20 }
 {
     if number == 0 {
         return 0;
     }
-    number_size(field, u64::from(number))
+    number_size(field, number)
 }
 
 // A text that is in no 'one of'.
@@ -57,21 +56,21 @@ fn size_unless_empty(field: u32, text: &[u8]) -> usize
 
 /// How many bytes an IRI's message takes.
 #[inline]
-pub fn iri_size(iri: RawIri) -> usize
-    ensures exact { result ≡ length (iri_of (ids_seen iri)) }
+pub fn iri_size(prefix: u64, name: u64) -> usize
+    ensures exact { result ≡ length (iri_of (record { prefix = prefix; name = name })) }
     ensures within { result ≤ 40 }
 {
-    size_unless_0(1, iri.prefix) + size_unless_0(2, iri.name)
+    size_unless_0(1, prefix) + size_unless_0(2, name)
 }
 
 /// Appends a field that holds an IRI. Where memory isn't found, a front of it may be appended.
 #[inline]
-pub fn push_iri(out: &mut Vec<u8>, field: u32, iri: RawIri) -> Result<(), AllocError>
-    ensures { OnOk result (out.new.items ≡ out.old.items ++ field_of field (Bytes (iri_of (ids_seen iri)))) }
+pub fn push_iri(out: &mut Vec<u8>, field: u32, prefix: u64, name: u64) -> Result<(), AllocError>
+    ensures { OnOk result (out.new.items ≡ out.old.items ++ field_of field (Bytes (iri_of (record { prefix = prefix; name = name })))) }
 {
-    push_front(out, field, iri_size(iri))?;
-    push_unless_0(out, 1, iri.prefix)?;
-    push_unless_0(out, 2, iri.name)
+    push_front(out, field, iri_size(prefix, name))?;
+    push_unless_0(out, 1, prefix)?;
+    push_unless_0(out, 2, name)
 }
 
 /// Appends a field that holds a literal without tag and datatype. Where memory isn't found, a front of it may be
@@ -108,16 +107,15 @@ pub fn push_typed_literal(
     out: &mut Vec<u8>,
     field: u32,
     lex: &[u8],
-    datatype: u32,
+    datatype: u64,
 ) -> Result<(), AllocError>
     requires { length lex.now < 2 ^ 32 }
     ensures { OnOk result (out.new.items ≡ out.old.items ++ field_of field (Bytes (literal_of lex.now (Ending.Typed datatype)))) }
 {
-    let id = u64::from(datatype);
-    let size = size_unless_empty(1, lex) + number_size(3, id);
+    let size = size_unless_empty(1, lex) + number_size(3, datatype);
     push_front(out, field, size)?;
     push_unless_empty(out, 1, lex)?;
-    push_number(out, 3, id)
+    push_number(out, 3, datatype)
 }
 
 // The field of a row that holds an entry of the table.
@@ -133,7 +131,7 @@ fn entry_field(table: Table) -> u32
 }
 
 /// Appends an entry's row in the field of its frame. Where memory isn't found, a front of it may be appended.
-pub fn push_entry(out: &mut Vec<u8>, table: Table, id: u32, text: &[u8]) -> Result<(), AllocError>
+pub fn push_entry(out: &mut Vec<u8>, table: Table, id: u64, text: &[u8]) -> Result<(), AllocError>
     requires { length text.now < 2 ^ 32 }
     ensures { OnOk result (out.new.items ≡ out.old.items ++ field_of 1 (Bytes (row_of (Row.Entry table id text.now)))) }
 {

@@ -5,7 +5,16 @@ ghost use Rattle.jl_spell.specs.Varints.{varint_of};
 use std::alloc::AllocError;
 
 /// How many bytes the shortest varint of a number takes, from 1 to 10.
+#[inline]
 pub fn varint_len(number: u64) -> usize
+    ensures exact { result ≡ length (varint_of number) }
+    ensures within { result ≤ 10 }
+{
+    if number < 128 { 1 } else { long_len(number) }
+}
+
+// The same, byte by byte.
+fn long_len(number: u64) -> usize
     ensures exact { result ≡ length (varint_of number) }
     ensures within { result ≤ 10 }
 {
@@ -28,13 +37,13 @@ pub fn push_varint(out: &mut Vec<u8>, number: u64) -> Result<(), AllocError>
         out.push(number as u8)?;
         return Ok(());
     }
-    let (held, len) = spelled(number);
+    let (held, len) = varint(number);
     out.extend_from_slice(&held[..len])?;
     Ok(())
 }
 
-// The shortest varint of a number, as so many first bytes.
-fn spelled(number: u64) -> ([u8; 10], usize)
+/// The shortest varint of a number, as so many first bytes.
+pub fn varint(number: u64) -> ([u8; 10], usize)
     ensures exact { take result.1 result.0 ≡ varint_of number }
     ensures within { result.1 ≤ 10 }
 {

@@ -4,7 +4,7 @@ use crate::{
     push_tagged_literal, push_typed_literal, push_varint, rows_read_back, varint_len,
     varints_read_back,
 };
-use jl_rows::{RawIri, Table};
+use jl_rows::Table;
 use std::test::Fail;
 
 #[test]
@@ -54,15 +54,15 @@ fn made_pair(rt: HostRuntime) -> Result<(), Fail> {
     push_front(&mut out, 1, 10)?;
     push_front(&mut out, 6, 8)?;
     push_bytes(&mut out, 1, b"p0")?;
-    push_iri(&mut out, 2, RawIri { prefix: 1, name: 0 })?;
+    push_iri(&mut out, 2, 1, 0)?;
     push_entry(&mut out, Table::Prefix, 0, b"http://example.org/v129/")?;
     push_entry(&mut out, Table::Name, 0, b"n2458")?;
     push_entry(&mut out, Table::Prefix, 0, b"http://example.org/p/")?;
     push_entry(&mut out, Table::Name, 0, b"26")?;
     push_front(&mut out, 1, 29)?;
     push_front(&mut out, 2, 27)?;
-    push_iri(&mut out, 1, RawIri { prefix: 2, name: 0 })?;
-    push_iri(&mut out, 5, RawIri { prefix: 3, name: 0 })?;
+    push_iri(&mut out, 1, 2, 0)?;
+    push_iri(&mut out, 5, 3, 0)?;
     push_tagged_literal(&mut out, 11, b"text 531564", b"en")?;
     assert_eq!(rt; out.len(), 173);
     assert_eq!(rt; out.as_slice(), wanted.as_slice());
@@ -75,14 +75,14 @@ fn zeros_and_sizes(rt: HostRuntime) -> Result<(), Fail> {
     push_typed_literal(&mut out, 16, b"a", 0)?;
     push_tagged_literal(&mut out, 4, b"", b"")?;
     push_simple_literal(&mut out, 3, b"")?;
-    push_iri(&mut out, 5, RawIri { prefix: 0, name: 0 })?;
+    push_iri(&mut out, 5, 0, 0)?;
     push_entry(&mut out, Table::Datatype, 7, b"u:")?;
     let wanted =
         b"\x82\x01\x05\x0A\x01a\x18\x00\x22\x02\x12\x00\x1A\x00\x2A\x00\x0A\x08\x5A\x06\x08\x07\x12\x02u:";
     assert_eq!(rt; out.as_slice(), wanted.as_slice());
     assert_eq!(rt; number_size(16, 300), 4);
     assert_eq!(rt; front_size(11, 127), 2);
-    assert_eq!(rt; iri_size(RawIri { prefix: 1, name: 0 }), 2);
+    assert_eq!(rt; iri_size(1, 0), 2);
     Ok(())
 }
 

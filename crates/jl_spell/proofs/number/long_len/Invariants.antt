@@ -1,6 +1,6 @@
 use Rattle.std.proofs.Common.{◌≡◌, ℕ, ◌+◌, ◌<◌, ◌^◌, length}
 use Rattle.jl_spell.specs.Varints.{varint_within, varint_of}
-use Rattle.jl_spell.proofs.number.varint_len.Given as goal
+use Rattle.jl_spell.proofs.number.long_len.Given as goal
 
 -- so many bytes are counted, and the last one of the rest is counted already
 pub record Counts (number rest len : ℕ) : Type 0 where

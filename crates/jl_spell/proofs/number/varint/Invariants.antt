@@ -1,6 +1,6 @@
 use Rattle.std.proofs.Common.{◌≡◌, ℕ, ◌+◌, ◌<◌, ◌^◌, ◌++◌, List, length, take}
 use Rattle.jl_spell.specs.Varints.{varint_within, varint_of}
-use Rattle.jl_spell.proofs.number.spelled.Given as goal
+use Rattle.jl_spell.proofs.number.varint.Given as goal
 
 -- these first bytes stand, and the rest follows
 pub record Stands (number rest len : ℕ) (held : List ℕ) : Type 0 where

@@ -2,7 +2,7 @@ use Rattle.std.proofs.Common.{◌<◌, ◌+◌, ◌/◌, ◌%◌, [], ◌∷◌,
 use Rattle.std.proofs.lemmas.List.{take_more_set, length-set}
 use Rattle.jl_spell.specs.Varints.{varint_within}
 use Rattle.jl_spell.proofs.VarintSteps.{whole, more, last}
-use Rattle.jl_spell.proofs.number.spelled.Goals as goal
+use Rattle.jl_spell.proofs.number.varint.Goals as goal
 
 pub by_byte-init : goal.by_byte-init
 by_byte-init c = record { room = 10; sum = omega arith; some = omega arith; small = omega (arith, c.ranges.number); size = refl; written = whole c.args.number }

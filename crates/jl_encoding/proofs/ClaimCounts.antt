@@ -17,26 +17,26 @@ module _ (t : Table) (n : ℕ) (x : List ℕ) (cs : List Claim) where
   abbrev pub claim : Claim
   claim = record { table = t; id = n; text = x }
 
-  claimed_new : is_claimed t n (claim ∷ cs) ≡ true
+  pub claimed_new : is_claimed t n (claim ∷ cs) ≡ true
   claimed_new = let same : nat_eq n n ≡ true = eq-eqb n n refl in rw (table_same t, same) refl
 
-  claimed_old : (u : Table) (k : ℕ) → is_claimed u k cs ≡ true → is_claimed u k (claim ∷ cs) ≡ true
+  pub claimed_old : (u : Table) (k : ℕ) → is_claimed u k cs ≡ true → is_claimed u k (claim ∷ cs) ≡ true
   claimed_old u k h = or_right (is_table t u && (n == k)) (is_claimed u k cs) h
 
-  claimed_other : (m : ℕ) → (m ≡ n → ⊥) → is_claimed t m (claim ∷ cs) ≡ is_claimed t m cs
+  pub claimed_other : (m : ℕ) → (m ≡ n → ⊥) → is_claimed t m (claim ∷ cs) ≡ is_claimed t m cs
   claimed_other m ne = let apart : nat_eq n m ≡ false = ne_eqb n m (λ e. ne (sym e)) in rw (table_same t, apart) refl
 
-  claimed_same : is_claimed t n cs ≡ true → (m : ℕ) → is_claimed t m (claim ∷ cs) ≡ is_claimed t m cs
+  pub claimed_same : is_claimed t n cs ≡ true → (m : ℕ) → is_claimed t m (claim ∷ cs) ≡ is_claimed t m cs
   claimed_same is m = elim (cases_eq m n) [
     | inl e ↦ let here : is_claimed t m cs ≡ true = subst (λ (k : ℕ). is_claimed t k cs ≡ true) (sym e) is in claimed_old t m here ∙ sym here
     | inr ne ↦ claimed_other m ne
   ]
 
-  claimed_apart : (u : Table) → is_table t u ≡ false → (m : ℕ) → is_claimed u m (claim ∷ cs) ≡ is_claimed u m cs
+  pub claimed_apart : (u : Table) → is_table t u ≡ false → (m : ℕ) → is_claimed u m (claim ∷ cs) ≡ is_claimed u m cs
   claimed_apart u apart m = rw apart refl
 
   module _ (o : StreamOptions) (K : History) where
-    still : (u : Table) (y : List ℕ) → Known o K cs u y → Known o K (claim ∷ cs) u y
+    pub still : (u : Table) (y : List ℕ) → Known o K cs u y → Known o K (claim ∷ cs) u y
     still u y k = record { id = k.id; held = k.held; claimed = claimed_old u k.id k.claimed }
 
     -- in a slot that holds it already
@@ -64,19 +64,19 @@ module _ (t : Table) (n : ℕ) (x : List ℕ) (cs : List Claim) where
       abbrev pub K' : History
       K' = entry t n x K some ∷ K
 
-      slot_same : (u : Table) (m : ℕ) → (is_table u t && (m == n)) ≡ false → slot u m K' ≡ slot u m K
+      pub slot_same : (u : Table) (m : ℕ) → (is_table u t && (m == n)) ≡ false → slot u m K' ≡ slot u m K
       slot_same u m other = slot_other t n x K some u m other
 
-      apart_from : (m : ℕ) → (m ≡ n → ⊥) → slot t m K' ≡ slot t m K
+      pub apart_from : (m : ℕ) → (m ≡ n → ⊥) → slot t m K' ≡ slot t m K
       apart_from m ne = slot_same t m (and_right (is_table t t) (nat_eq m n) (ne_eqb m n ne))
 
-      new_here : n ≤ size_of o t → holder o t x K ≡ None → holder o t x K' ≡ Some n
+      pub new_here : n ≤ size_of o t → holder o t x K ≡ None → holder o t x K' ≡ Some n
       new_here fits none =
           let new = slot_new t n x K some in
           let passes : is_text x (slot t n K') ≡ true = rw new ((bytes_eq-Decides x x).1 refl) in
           find_first (λ m. is_text x (slot t m K)) (λ m. is_text x (slot t m K')) n 1 (size_of o t) (λ m ne. ap (is_text x) (apart_from m ne)) passes some (omega (arith, fits)) none
 
-      new_still : holder o t x K ≡ None → is_claimed t n cs ≡ false → (y : List ℕ) → Known o K cs t y → Known o K' (claim ∷ cs) t y
+      pub new_still : holder o t x K ≡ None → is_claimed t n cs ≡ false → (y : List ℕ) → Known o K cs t y → Known o K' (claim ∷ cs) t y
       new_still none free y k = record {
         id = k.id;
         held = find_same (λ m. is_text y (slot t m K)) (λ m. is_text y (slot t m K')) (numbers_from 1 (size_of o t)) k.id fewer (ap (is_text y) (apart_from k.id unlike) ∙ find_passes (λ m. is_text y (slot t m K)) (numbers_from 1 (size_of o t)) k.id k.held) k.held;
@@ -102,18 +102,22 @@ module _ (t : Table) (n : ℕ) (x : List ℕ) (cs : List Claim) where
           grow o t x xs K K' cs (claim ∷ cs) c (new_still none free) (record { id = n; held = new_here fits none; claimed = claimed_new })
           (inr (tally_one (λ m. is_claimed t m cs) (λ m. is_claimed t m (claim ∷ cs)) n 1 (size_of o t) claimed_other, λ k. let h = k.held in cc))
 
+      -- another table
+      pub slot_apart : (u : Table) → is_table u t ≡ false → (m : ℕ) → slot u m K' ≡ slot u m K
+      slot_apart u other m = slot_same u m (and_left (is_table u t) (nat_eq m n) other)
+
+      pub still_apart : (u : Table) → is_table u t ≡ false → (y : List ℕ) → Known o K cs u y → Known o K' (claim ∷ cs) u y
+      still_apart u other y k = record {
+        id = k.id;
+        held = find_same (λ m. is_text y (slot u m K)) (λ m. is_text y (slot u m K')) (numbers_from 1 (size_of o u)) k.id (λ m h. sym (all m) ∙ h) (all k.id ∙ find_passes (λ m. is_text y (slot u m K)) (numbers_from 1 (size_of o u)) k.id k.held) k.held;
+        claimed = claimed_old u k.id k.claimed;
+      }
+        where
+          all : (m : ℕ) → is_text y (slot u m K') ≡ is_text y (slot u m K)
+          all m = ap (is_text y) (slot_apart u other m)
+
       pub new_apart : (u : Table) (xs : List (List ℕ)) → is_table t u ≡ false → is_table u t ≡ false → Count o K cs u xs → Count o K' (claim ∷ cs) u xs
       new_apart u xs apart other c =
           let same = tally_same (λ m. is_claimed u m cs) (λ m. is_claimed u m (claim ∷ cs)) (numbers_from 1 (size_of o u)) (claimed_apart u apart) in
           let few = c.few in
-          record { pend = c.pend; known = λ y h free. over y (c.known y h free); few = omega (arith, same, few) }
-        where
-          all : (y : List ℕ) (m : ℕ) → is_text y (slot u m K') ≡ is_text y (slot u m K)
-          all y m = ap (is_text y) (slot_same u m (and_left (is_table u t) (nat_eq m n) other))
-
-          over : (y : List ℕ) → Known o K cs u y → Known o K' (claim ∷ cs) u y
-          over y k = record {
-            id = k.id;
-            held = find_same (λ m. is_text y (slot u m K)) (λ m. is_text y (slot u m K')) (numbers_from 1 (size_of o u)) k.id (λ m h. sym (all y m) ∙ h) (all y k.id ∙ find_passes (λ m. is_text y (slot u m K)) (numbers_from 1 (size_of o u)) k.id k.held) k.held;
-            claimed = claimed_old u k.id k.claimed;
-          }
+          record { pend = c.pend; known = λ y h free. still_apart u other y (c.known y h free); few = omega (arith, same, few) }

@@ -35,13 +35,13 @@ more_different x xs = by_test (has x xs)
     by_test true = omega arith
     by_test false = omega arith
 
-empty_same : (x y : List ℕ) → is_empty x ≡ true → is_empty y ≡ true → x ≡ y
+pub empty_same : (x y : List ℕ) → is_empty x ≡ true → is_empty y ≡ true → x ≡ y
 empty_same [] [] a b = refl
 empty_same [] (y ∷ ys) a b = cc
 empty_same (x ∷ xs) y a b = cc
 
 -- the text that was asked now, or one that was asked before
-asked : (P : List ℕ → Type 0) (x y : List ℕ) (xs : List (List ℕ)) → has y (x ∷ xs) ≡ true → P x → (has y xs ≡ true → P y) → P y
+pub asked : (P : List ℕ → Type 0) (x y : List ℕ) (xs : List (List ℕ)) → has y (x ∷ xs) ≡ true → P x → (has y xs ≡ true → P y) → P y
 asked P x y xs h here before = elim (or_cases (bytes_eq y x) (has y xs) h) [
   | inl same ↦ subst P (sym ((bytes_eq-Decides y x).0 same)) here
   | inr there ↦ before there

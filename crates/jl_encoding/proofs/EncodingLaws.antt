@@ -1,5 +1,5 @@
 -- The file of proper items is decoded to these items.
-use Rattle.std.proofs.Common.{◌≡◌, ℕ, Bool, true, false, reverse, nat_lt, Some, Result, if◌then◌else◌, ◌+◌, ◌≤◌, ◌++◌, ◌<◌, ◌^◌, List, [], ◌∷◌, length, map, None, Ok, refl, ap, sym, ◌∙◌, arith}
+use Rattle.std.proofs.Common.{◌≡◌, ℕ, Bool, true, false, reverse, nat_lt, Some, Result, if◌then◌else◌, ◌+◌, ◌++◌, ◌<◌, ◌^◌, List, [], ◌∷◌, length, map, None, Ok, refl, ap, sym, ◌∙◌, arith}
 use Rattle.std.specs.List.{AllByRecursion}
 use Rattle.std.proofs.lemmas.Bool.{ltb-false, or_parts}
 use Rattle.std.proofs.lemmas.Str.{is_utf8-from_IsUtf8, IsUtf8-nil}
@@ -11,7 +11,7 @@ use Rattle.jl_rows.specs.declared.row.Table.{Table}
 use Rattle.jl_rows.specs.Written.{StreamOptions, Row}
 use Rattle.jl_rows.specs.History.{History}
 use Rattle.jl_rows.specs.Files.{Placed, all_rows, rows_from}
-use Rattle.jl_rows.specs.Decoder.{size_of, head_checked, first_row_checked, decoded, head_of, decoded_under, head, decode}
+use Rattle.jl_rows.specs.Decoder.{head_checked, first_row_checked, decoded, head_of, decoded_under, head, decode}
 use Rattle.jl_spell.specs.Varints.{varint_within, varint_of}
 use Rattle.jl_spell.specs.Fields.{field_of}
 use Rattle.jl_spell.specs.Messages.{message_of}
@@ -21,10 +21,11 @@ use Rattle.jl_spell.proofs.FrameLaws.{frames_back}
 use Rattle.jl_encoding.specs.declared.form.Form.{Form}
 use Rattle.jl_encoding.specs.Slots.{Refusal}
 use Rattle.jl_encoding.specs.Items.{item_rows, stated_by}
-use Rattle.jl_encoding.specs.Wide.{different, asked_by_item, is_crowded, is_long, is_too_wide, where_answered, wide_from}
+use Rattle.jl_encoding.specs.Wide.{is_crowded, is_long, is_too_wide, where_answered, wide_from}
 use Rattle.jl_encoding.specs.Encoding.{options_of, first_row, each_item, framed, file_of, encoding, EncodingsDecode}
 use Rattle.jl_encoding.proofs.ItemLaws.{items_stated}
 use Rattle.jl_encoding.proofs.FitLaws.{FitsTables, item_fits}
+use Rattle.jl_encoding.proofs.WideLaws.{tables_fit}
 use Rattle.jl_encoding.proofs.FileLaws.{onto, all_of, row_of_place, each_with, decodes}
 use Rattle.jl_encoding.proofs.CutLaws.{AreRows, IsFrame, IsNarrow, IsGood, framed_all, framed_frames, frames_places}
 use Rattle.jl_encoding.proofs.ProperLaws.{AreSmall, each_put, items_tags}
@@ -87,30 +88,27 @@ file_decodes form per is rss frames_are stated =
     decode_by form file places.items (all_of rss) are rows ∙ found.says ∙ ap (λ (xs : List Item). record { items = xs; fault = None }) (sym found.all)
 
 -- items with rows that are narrow
-record Narrow (o : StreamOptions) (H : History) (is : List Item) : Type 0 where
-  rss : List (List Row)
-  are : each_item o H is ≡ Ok rss
-  narrow : AllByRecursion IsNarrow rss
+pub record Narrow (o : StreamOptions) (H : History) (is : List Item) : Type 0 where
+  pub rss : List (List Row)
+  pub are : each_item o H is ≡ Ok rss
+  pub narrow : AllByRecursion IsNarrow rss
 
-each_next : (o : StreamOptions) (H : History) (i : Item) (is : List Item) (rs : List Row) (rest : List (List Row)) → item_rows o H i ≡ Ok rs → each_item o (rs ++ H) is ≡ Ok rest → each_item o H (i ∷ is) ≡ Ok (reverse rs ∷ rest)
+pub each_next : (o : StreamOptions) (H : History) (i : Item) (is : List Item) (rs : List Row) (rest : List (List Row)) → item_rows o H i ≡ Ok rs → each_item o (rs ++ H) is ≡ Ok rest → each_item o H (i ∷ is) ≡ Ok (reverse rs ∷ rest)
 unfolding each_item
 each_next o H i is rs rest first others = rw (first, others) refl
 
-narrow_items : (o : StreamOptions) (H : History) (n : ℕ) (is : List Item) → wide_from o H n is ≡ None → Narrow o H is
+pub narrow_items : (o : StreamOptions) (H : History) (n : ℕ) (is : List Item) → wide_from o H n is ≡ None → Narrow o H is
 unfolding wide_from each_item
 narrow_items o H n [] none = record { rss = []; are = refl; narrow = tt }
 narrow_items o H n (i ∷ is) none = by_test (is_too_wide o H i) refl none (λ rs h. narrow_items o (rs ++ H) (n + 1) is h)
   where
-    room : (t : Table) → is_crowded o H i t ≡ false → different (asked_by_item t i H) ≤ size_of o t
-    room t h = ltb-false (size_of o t) (different (asked_by_item t i H)) h
-
     by_test : (b : Bool) → is_too_wide o H i ≡ b → (if b then Some n else where_answered (item_rows o H i) (λ rs. wide_from o (rs ++ H) (n + 1) is)) ≡ None → ((rs : List Row) → wide_from o (rs ++ H) (n + 1) is ≡ None → Narrow o (rs ++ H) is) → Narrow o H (i ∷ is)
     by_test true e none rest = absurd (cc)
     by_test false e none rest =
         let a = or_parts (is_crowded o H i Table.Name) _ e in
         let b = or_parts (is_crowded o H i Table.Prefix) _ a.1 in
         let c = or_parts (is_crowded o H i Table.Datatype) (is_long (item_rows o H i)) b.1 in
-        let fits : FitsTables o H i = each_table a.0 b.0 c.0 in
+        let fits : FitsTables o H i = tables_fit o H i a.0 b.0 c.0 in
         let found = item_fits o H i fits in
         let behind : wide_from o (found.rows ++ H) (n + 1) is ≡ None = sym (ap (λ (r : Result (List Row) Refusal). where_answered r (λ rs. wide_from o (rs ++ H) (n + 1) is)) found.are) ∙ none in
         let short : nat_lt (2 ^ 26) (length (body_of (reverse found.rows))) ≡ false = sym (ap is_long found.are) ∙ c.1 in
@@ -120,11 +118,6 @@ narrow_items o H n (i ∷ is) none = by_test (is_too_wide o H i) refl none (λ r
           are = each_next o H i is found.rows others.rss found.are others.are;
           narrow = (ltb-false (2 ^ 26) (length (body_of (reverse found.rows))) short, others.narrow);
         }
-      where
-        each_table : is_crowded o H i Table.Name ≡ false → is_crowded o H i Table.Prefix ≡ false → is_crowded o H i Table.Datatype ≡ false → FitsTables o H i
-        each_table a b c Table.Name = room Table.Name a
-        each_table a b c Table.Prefix = room Table.Prefix b
-        each_table a b c Table.Datatype = room Table.Datatype c
 
 pub encodings_decoded : EncodingsDecode
 unfolding encoding

@@ -9,8 +9,13 @@ pub mod FileLaws
 pub mod CutLaws
 pub mod ProperLaws
 pub mod EncodingLaws
+pub mod HandedLaws
 pub mod Tallies
 pub mod CountLaws
 pub mod ClaimCounts
+pub mod ExactCounts
 pub mod FitLaws
+pub mod ExactSteps
+pub mod WideLaws
+pub mod WeightLaws
 pub mod WorkedRows

@@ -84,3 +84,43 @@ find_first p q n low (suc count) same passes above below none = elim (cases_eq l
     by_test : (b : Bool) → cond b (Some low) (find p (numbers_from (low + 1) count)) ≡ None → (find p (numbers_from (low + 1) count) ≡ None → find q (numbers_from (low + 1) count) ≡ Some n) → cond b (Some low) (find q (numbers_from (low + 1) count)) ≡ Some n
     by_test true h rest = absurd (cc)
     by_test false h rest = rest h
+
+-- where one more passes
+pub tally_more : (p q : ℕ → Bool) (n low count : ℕ) → ((m : ℕ) → (m ≡ n → ⊥) → q m ≡ p m) → p n ≡ false → q n ≡ true → low ≤ n → n < low + count → tally q (numbers_from low count) ≡ tally p (numbers_from low count) + 1
+tally_more p q n low zero same before now above below = absurd (omega (arith, above, below))
+tally_more p q n low (suc count) same before now above below = elim (cases_eq low n) [
+  | inl e ↦
+      (let rest = tally_apart p q n (low + 1) count same (omega (arith, e)) in
+      let old : p low ≡ false = subst (λ (y : ℕ). p y ≡ false) (sym e) before in
+      let new : q low ≡ true = subst (λ (y : ℕ). q y ≡ true) (sym e) now in
+      rw (old, new, rest) refl)
+  | inr ne ↦ let here = same low ne in let rest = tally_more p q n (low + 1) count same before now (omega (arith, above, ne)) (omega (arith, below)) in rw here (by_one (p low) rest)
+]
+  where
+    by_one : (a : Bool) → tally q (numbers_from (low + 1) count) ≡ tally p (numbers_from (low + 1) count) + 1
+        → (if a then tally q (numbers_from (low + 1) count) + 1 else tally q (numbers_from (low + 1) count)) ≡ (if a then tally p (numbers_from (low + 1) count) + 1 else tally p (numbers_from (low + 1) count)) + 1
+    by_one true rest = omega (arith, rest)
+    by_one false rest = rest
+
+pub tally_most : (p : ℕ → Bool) (low count : ℕ) → tally p (numbers_from low count) ≤ count
+tally_most p low zero = omega arith
+tally_most p low (suc count) = by_test (p low) (tally_most p (low + 1) count)
+  where
+    by_test : (b : Bool) → tally p (numbers_from (low + 1) count) ≤ count → (if b then tally p (numbers_from (low + 1) count) + 1 else tally p (numbers_from (low + 1) count)) ≤ suc count
+    by_test true rest = omega (arith, rest)
+    by_test false rest = omega (arith, rest)
+
+-- where one doesn't pass, not all do
+pub tally_fewer : (p : ℕ → Bool) (n low count : ℕ) → p n ≡ false → low ≤ n → n < low + count → tally p (numbers_from low count) < count
+tally_fewer p n low zero free above below = absurd (omega (arith, above, below))
+tally_fewer p n low (suc count) free above below = elim (cases_eq low n) [
+  | inl e ↦
+      (let here : p low ≡ false = subst (λ (y : ℕ). p y ≡ false) (sym e) free in
+      let most = tally_most p (low + 1) count in
+      rw here (omega (arith, most)))
+  | inr ne ↦ by_test (p low) (tally_fewer p n (low + 1) count free (omega (arith, above, ne)) (omega (arith, below)))
+]
+  where
+    by_test : (b : Bool) → tally p (numbers_from (low + 1) count) < count → (if b then tally p (numbers_from (low + 1) count) + 1 else tally p (numbers_from (low + 1) count)) < suc count
+    by_test true rest = omega (arith, rest)
+    by_test false rest = omega (arith, rest)

@@ -6,3 +6,5 @@ pub mod Items
 pub mod Wide
 pub mod Proper
 pub mod Encoding
+pub mod Handed
+pub mod WorkedRows

@@ -10,4 +10,4 @@ mod laws;
 mod tests;
 
 pub use form::Form;
-pub use laws::{encodings_decode, items_are_stated};
+pub use laws::{encodings_decode, frames_are_handed, items_are_stated, worked_rows};

@@ -1,4 +1,4 @@
-use crate::{Form, encodings_decode, items_are_stated};
+use crate::{Form, encodings_decode, frames_are_handed, items_are_stated, worked_rows};
 use std::process::Abort;
 
 fn differ(rt: &impl Abort, one: Form, other: Form) {
@@ -11,4 +11,6 @@ fn forms_and_laws(rt: HostRuntime) {
     differ(&rt, Form::Triples, Form::Quads);
     items_are_stated();
     encodings_decode();
+    frames_are_handed();
+    worked_rows();
 }

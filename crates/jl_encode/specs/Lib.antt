@@ -1,0 +1,10 @@
+pub mod Desks
+pub mod Putting
+pub mod Spelling
+pub mod Standing
+pub mod InStep
+pub mod Stated
+pub mod Held
+pub mod Lasts
+pub mod Answers
+pub mod Encoders

@@ -14,6 +14,7 @@ import tempfile
 from program import Program, Tally
 
 HERE = os.path.dirname(os.path.abspath(__file__))
+ENCODER = os.path.join(os.path.dirname(HERE), "crates/encode_made/out/encode_made")
 
 
 def protobuf_is_there(tally, folder):
@@ -56,6 +57,7 @@ def commands_of(program, tally):
 def main():
     words = argparse.ArgumentParser(prog="interop/run", description="Holds jellyp against programs that nobody here wrote.")
     words.add_argument("binary", metavar="BINARY")
+    words.add_argument("--encoder", default=ENCODER, help="the program that encodes made items (%(default)s)")
     words.add_argument("--seed", default="1", help="what all files are made from (1)")
     words.add_argument("--files", type=int, default=2000, help="how many Jelly files are made, and how many damaged (2000)")
     words.add_argument("--texts", type=int, default=60, help="how many texts rapper and serdi read (60)")
@@ -69,8 +71,10 @@ def main():
             import damage
             import findings
             import jelly_peer
+            import made_peer
             import nquads_peer
             jelly_peer.run(program, commands, tally, words.seed, words.files)
+            made_peer.run(program, os.path.abspath(words.encoder), tally)
             damage.run(program, commands, tally, words.seed, words.files)
             readers = there(tally, [("rapper", "raptor2-utils"), ("serdi", "serdi")])
             if readers:

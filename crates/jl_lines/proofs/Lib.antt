@@ -3,3 +3,5 @@ pub mod Graphs
 pub mod GoingLemmas
 pub mod Parting
 pub mod Endings
+pub mod Pages
+pub mod Repeating

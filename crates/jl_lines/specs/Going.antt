@@ -32,7 +32,7 @@ pub record Made : Type 0 where
   pub counts : Counts
 
 abbrev pub made : Decoding → Made
-made decoding = record { buffer = decoding.buffer.items; counts = decoding.counts }
+made decoding = record { buffer = decoding.page.lines; counts = decoding.counts }
 
 -- nothing yet
 abbrev pub none_made : Made
@@ -41,8 +41,8 @@ none_made = record { buffer = []; counts = none_counted }
 -- One row: its step, and what is written of it behind the buffer; or its fault, and all as it was. Want of memory is free.
 abbrev pub TakesRow : (Item → List ℕ) → List ℕ → Stepped → Made → Decoding → Result (Unit {0}) Stop → Type 0
 TakesRow writes bytes said before after (Ok _) = (items : List Item) × (said ≡ Ok (state_seen bytes after.state, items))
-    × (after.buffer.items ≡ before.buffer ++ flat_map writes items) × (after.counts ≡ with_counted before.counts items)
-TakesRow writes bytes said before after (Err (stops.Fault kind)) = (said ≡ Err kind) × (after.buffer.items ≡ before.buffer)
+    × (after.page.lines ≡ before.buffer ++ flat_map writes items) × (after.counts ≡ with_counted before.counts items)
+TakesRow writes bytes said before after (Err (stops.Fault kind)) = (said ≡ Err kind) × (after.page.lines ≡ before.buffer)
 TakesRow writes bytes said before after (Err stops.NoMemory) = Unit {0}
 
 -- From a state with these rows left to another: what was written so far and what is to come are the same, so are the
@@ -98,7 +98,7 @@ ComesOn writes bytes o frame before old at new held held' faults faults' (Ok (So
 ComesOn writes bytes o frame before old at new held held' faults faults' (Ok None) =
     Goes writes o (state_seen bytes old.state) (made old) (rest_of bytes frame before at) (state_seen bytes new.state) (made new) (from_frame bytes (frame.number + 1) frame.end) held held'
 ComesOn writes bytes o frame before old at new held held' faults faults' (Err why) =
-    Breaks writes o (state_seen bytes old.state) (made old) (rest_of bytes frame before at) new.buffer.items held held' faults faults' why
+    Breaks writes o (state_seen bytes old.state) (made old) (rest_of bytes frame before at) new.page.lines held held' faults faults' why
 
 -- on to a place of the frame behind so many rows, or to its end, or broken off
 abbrev pub ComesFar : (Item → List ℕ) → List ℕ → StreamOptions → Frame → ℕ → Decoding → ℕ → Decoding → Option Held → Option Held → ℕ → ℕ → Result (Option (ℕ × ℕ)) Broken → Type 0
@@ -107,7 +107,7 @@ ComesFar writes bytes o frame before old at new held held' faults faults' (Ok (S
 ComesFar writes bytes o frame before old at new held held' faults faults' (Ok None) =
     Goes writes o (state_seen bytes old.state) (made old) (rest_of bytes frame before at) (state_seen bytes new.state) (made new) (from_frame bytes (frame.number + 1) frame.end) held held'
 ComesFar writes bytes o frame before old at new held held' faults faults' (Err why) =
-    Breaks writes o (state_seen bytes old.state) (made old) (rest_of bytes frame before at) new.buffer.items held held' faults faults' why
+    Breaks writes o (state_seen bytes old.state) (made old) (rest_of bytes frame before at) new.page.lines held held' faults faults' why
 
 -- the rows behind the first k frames of an index
 abbrev pub behind_frames : List ℕ → List Span → ℕ → Reading Placed Fault

@@ -1,5 +1,5 @@
 -- The graph in a line.
-use Rattle.std.specs.Prelude.{ℕ, Bool, true, false, List, [], ◌∷◌, ◌++◌, if◌then◌else◌}
+use Rattle.std.specs.Prelude.{ℕ, Bool, true, false, List, [], ◌∷◌, ◌++◌, codes, if◌then◌else◌}
 use Rattle.jl_base.specs.Terms.{Value}
 use Rattle.jl_text.specs.Line.{graph_texts}
 use Rattle.jl_rows.specs.Written.{StreamOptions}
@@ -7,10 +7,10 @@ use Rattle.jl_rows.specs.Decoder.{is_quads, is_graphs}
 use Rattle.jl_state.specs.States.{State}
 use Rattle.jl_state.specs.Lawful.{value_or_default}
 
--- texts with a space before each
-abbrev pub after_space : List (List ℕ) → List ℕ
-after_space [] = []
-after_space (text ∷ texts) = (32 ∷ text) ++ after_space texts
+-- texts with a space behind each
+abbrev pub with_spaces : List (List ℕ) → List ℕ
+with_spaces [] = []
+with_spaces (text ∷ texts) = (text ++ codes " ") ++ with_spaces texts
 
 abbrev pub is_default : Value → Bool
 is_default Value.Default = true

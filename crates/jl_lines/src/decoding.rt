@@ -5,10 +5,14 @@ ghost use Rattle.jl_rows.specs.Heads.{ArePassed};
 ghost use Rattle.jl_state.specs.States.{opening};
 ghost use Rattle.jl_rows.specs.Seen.{options_seen, row_seen, HasRow};
 ghost use Rattle.jl_state.specs.Steps.{step};
-ghost use Rattle.jl_state.specs.Lawful.{state_seen, IsLawful};
+ghost use Rattle.jl_state.specs.Lawful.{state_seen};
+ghost use Rattle.jl_lines.specs.Kept.{Keeps};
+ghost use Rattle.jl_lines.specs.Pages.{KeepsNone};
 ghost use Rattle.jl_lines.specs.Going.{Gives, TakesRow, made, none_made};
 ghost use Rattle.jl_lines.specs.Writings.{written};
 
+use crate::line::Repeats;
+use crate::page::Page;
 use crate::writing::Writing;
 use jl_base::{Fault, Sink, write_all};
 use jl_rows::{Options, Row};
@@ -25,11 +29,11 @@ pub struct Counts {
     pub namespaces: u64,
 }
 
-/// A state, and what was made of the items before it. The buffer has what was written but not given yet.
+/// A state, and what was made of the items before it. The page has what was written and not given yet.
 #[derive(Debug, Drop)]
 pub struct Decoding {
     pub state: State,
-    pub buffer: Vec<u8>,
+    pub page: Page,
     pub counts: Counts,
     pub writing: Writing,
 }
@@ -37,7 +41,7 @@ pub struct Decoding {
 /// Why no further row is taken.
 #[derive(Clone, Copy, Debug)]
 pub enum Broken {
-    /// The file's first fault; the lines before it are in the buffer, or were given.
+    /// The file's first fault; the lines before it are on the page, or were given.
     Malformed(Fault),
     WriteFault,
     NoMemory,
@@ -53,7 +57,7 @@ impl Decoding {
     ) -> Result<Decoding, AllocError>
         requires { ArePassed bytes.now options.now }
         ensures exact { IfOk result (λ d. state_seen bytes.now d.state ≡ opening (options_seen bytes.now options.now)) }
-        ensures lawful { IfOk result (λ d. IsLawful bytes.now d.state) }
+        ensures kept { IfOk result (Keeps bytes.now) }
         ensures options { IfOk result (λ d. d.state.options ≡ options.now) }
         ensures none { IfOk result (λ d. made d ≡ none_made) }
         ensures writing { IfOk result (λ d. d.writing ≡ writing) }
@@ -65,7 +69,7 @@ impl Decoding {
         };
         Ok(Decoding {
             state,
-            buffer: Vec::new(alloc),
+            page: Page::new(alloc),
             counts,
             writing,
         })
@@ -73,50 +77,52 @@ impl Decoding {
 
     // One row's items.
     pub(crate) fn row(&mut self, alloc: Global, bytes: &[u8], row: &Row) -> Result<(), Stop>
-        requires lawful { IsLawful bytes.now self.old.state }
+        requires kept { Keeps bytes.now self.old }
         requires inside { HasRow bytes.now row.now }
         requires short { length bytes.now ≤ 2 ^ 30 }
         requires few { self.old.counts.statements + self.old.counts.namespaces < 2 ^ 30 }
         ensures exact { TakesRow (written self.old.writing) bytes.now (step (options_seen bytes.now self.old.state.options) (row_seen bytes.now row.now) (state_seen bytes.now self.old.state)) (made self.old) self.new result }
-        ensures lawful { OnOk result (IsLawful bytes.now self.new.state) }
+        ensures kept { OnOk result (Keeps bytes.now self.new) }
         ensures options { self.new.state.options ≡ self.old.state.options }
         ensures writing { self.new.writing ≡ self.old.writing }
         ensures few { self.new.counts.statements + self.new.counts.namespaces ≤ self.old.counts.statements + self.old.counts.namespaces + 1 }
     {
+        let repeats = Repeats::of(bytes, row);
         match self.state.step(alloc, bytes, row)? {
             Stated::Nothing => {}
             Stated::Statement => {
                 self.counts.statements += 1;
                 self.writing
-                    .statement(&mut self.buffer, bytes, &self.state)?;
+                    .statement(&mut self.page, bytes, &self.state, repeats)?;
             }
             Stated::Namespace { name, prefix, iri } => {
                 self.counts.namespaces += 1;
                 self.writing
-                    .namespace(&mut self.buffer, bytes, name, prefix, iri)?;
+                    .namespace(&mut self.page, bytes, name, prefix, iri)?;
             }
         }
         Ok(())
     }
 
-    // Gives the sink the buffer.
+    // Gives the sink the lines.
     pub(crate) fn give<K: Sink>(&mut self, out: &mut K) -> Result<(), Broken>
-        ensures gives { Gives self.old.buffer.items self.new.buffer.items (K.held out.old) (K.held out.new) (K.faults out.old) (K.faults out.new) result }
+        ensures gives { Gives self.old.page.lines self.new.page.lines (K.held out.old) (K.held out.new) (K.faults out.old) (K.faults out.new) result }
+        ensures kept { OnOk result (KeepsNone self.new.page) }
         ensures later { K.faults out.old ≤ K.faults out.new }
         ensures state { self.new.state ≡ self.old.state }
         ensures counts { self.new.counts ≡ self.old.counts }
         ensures writing { self.new.writing ≡ self.old.writing }
     {
-        if write_all(out, &self.buffer).is_err() {
+        if write_all(out, self.page.lines()).is_err() {
             return Err(Broken::WriteFault);
         }
-        self.buffer.clear();
+        self.page.clear();
         Ok(())
     }
 
-    // The buffer is to be given.
+    // The lines are to be given.
     #[inline]
     pub(crate) fn is_long(&self) -> bool {
-        self.buffer.len() >= LONG
+        self.page.len() >= LONG
     }
 }

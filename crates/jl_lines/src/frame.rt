@@ -2,7 +2,8 @@
 ghost use Rattle.std.specs.Prelude.{◌≡◌, ℕ, Option, ◌+◌, ◌-◌, ◌<◌, ◌≤◌, ◌^◌, IfOk, IfSome, OnOk, length, slice_range};
 ghost use Rattle.jl_rows.specs.Files as files;
 ghost use Rattle.jl_rows.specs.Seen.{options_seen};
-ghost use Rattle.jl_state.specs.Lawful.{state_seen, IsLawful};
+ghost use Rattle.jl_state.specs.Lawful.{state_seen};
+ghost use Rattle.jl_lines.specs.Kept.{Keeps};
 ghost use Rattle.jl_lines.specs.Going.{Comes, ComesFar, ComesOn, from_frame, made, rest_of};
 ghost use Rattle.jl_lines.specs.Writings.{written};
 ghost use Rattle.jl_base.specs.Sinks.{Held};
@@ -46,7 +47,7 @@ impl Decoding {
         before: u32,
         row: &mut Row,
     ) -> Result<Option<usize>, Broken>
-        requires lawful { IsLawful bytes.now self.old.state }
+        requires kept { Keeps bytes.now self.old }
         requires short { length bytes.now ≤ 2 ^ 30 }
         requires start { at ≤ frame.end }
         requires inside { frame.end ≤ length bytes.now }
@@ -55,7 +56,7 @@ impl Decoding {
         ensures comes { (h : Option Held) → (f : ℕ) → ComesOn (written self.old.writing) bytes.now (options_seen bytes.now self.old.state.options) frame before self.old at self.new h h f f result }
         ensures within { IfOk result (λ found. IfSome found (λ next. (at < next) × (next ≤ frame.end) × (self.new.counts.statements + self.new.counts.namespaces ≤ next))) }
         ensures few { OnOk result (self.new.counts.statements + self.new.counts.namespaces ≤ frame.end) }
-        ensures lawful { OnOk result (IsLawful bytes.now self.new.state) }
+        ensures kept { OnOk result (Keeps bytes.now self.new) }
         ensures options { self.new.state.options ≡ self.old.state.options }
         ensures writing { self.new.writing ≡ self.old.writing }
     {
@@ -71,7 +72,7 @@ impl Decoding {
         }
     }
 
-    // The rows of a frame from a place in it on, behind so many rows: the place where the buffer became long and how many
+    // The rows of a frame from a place in it on, behind so many rows: the place where the page became long and how many
     // rows stand before it, or None at the frame's end.
     fn rows(
         &mut self,
@@ -81,7 +82,7 @@ impl Decoding {
         frame: Frame,
         before: u32,
     ) -> Result<Option<(usize, u32)>, Broken>
-        requires lawful { IsLawful bytes.now self.old.state }
+        requires kept { Keeps bytes.now self.old }
         requires short { length bytes.now ≤ 2 ^ 30 }
         requires start { at ≤ frame.end }
         requires inside { frame.end ≤ length bytes.now }
@@ -90,7 +91,7 @@ impl Decoding {
         ensures comes { (h : Option Held) → (f : ℕ) → ComesFar (written self.old.writing) bytes.now (options_seen bytes.now self.old.state.options) frame before self.old at self.new h h f f result }
         ensures within { IfOk result (λ found. IfSome found (λ r. (at < r.0) × (r.0 ≤ frame.end) × (r.1 ≤ r.0) × (self.new.counts.statements + self.new.counts.namespaces ≤ r.0))) }
         ensures few { OnOk result (self.new.counts.statements + self.new.counts.namespaces ≤ frame.end) }
-        ensures lawful { OnOk result (IsLawful bytes.now self.new.state) }
+        ensures kept { OnOk result (Keeps bytes.now self.new) }
         ensures options { self.new.state.options ≡ self.old.state.options }
         ensures writing { self.new.writing ≡ self.old.writing }
     {
@@ -107,7 +108,7 @@ impl Decoding {
         Ok(None)
     }
 
-    // The items of a frame whose body begins at a place. A long buffer is given.
+    // The items of a frame whose body begins at a place. A long page is given.
     pub(crate) fn frame<K: Sink>(
         &mut self,
         alloc: Global,
@@ -116,7 +117,7 @@ impl Decoding {
         frame: Frame,
         out: &mut K,
     ) -> Result<(), Broken>
-        requires lawful { IsLawful bytes.now self.old.state }
+        requires kept { Keeps bytes.now self.old }
         requires short { length bytes.now ≤ 2 ^ 30 }
         requires start { at ≤ frame.end }
         requires inside { frame.end ≤ length bytes.now }
@@ -126,7 +127,7 @@ impl Decoding {
             (K.held out.old) (K.held out.new) (K.faults out.old) (K.faults out.new) result }
         ensures few { OnOk result (self.new.counts.statements + self.new.counts.namespaces ≤ frame.end) }
         ensures later { K.faults out.old ≤ K.faults out.new }
-        ensures lawful { OnOk result (IsLawful bytes.now self.new.state) }
+        ensures kept { OnOk result (Keeps bytes.now self.new) }
         ensures options { self.new.state.options ≡ self.old.state.options }
         ensures writing { self.new.writing ≡ self.old.writing }
     {

@@ -5,9 +5,7 @@ ghost use Rattle.jl_state.specs.Extents.{text_in, IsSound};
 ghost use Rattle.jl_state.specs.KnownTerms.{known_value, tail_value, AreParts, HasKnown, HasTail};
 
 use jl_state::{Extent, Known, KnownTail, KnownThree};
-use jl_text::{
-    push_clean_iri_at, push_datatype_at, push_iri, push_label_at, push_string_at, push_tag_at,
-};
+use jl_text::{push_clean_iri, push_datatype, push_iri, push_label, push_string, push_tag};
 use std::alloc::AllocError;
 
 /// Appends an IRI by its prefix and its name.
@@ -23,7 +21,7 @@ pub fn push_iri_of(
     ensures { OnOk result (out.new.items ≡ out.old.items ++ iri_text (text_in bytes.now prefix ++ text_in bytes.now name)) }
 {
     if prefix.is_plain() && name.is_plain() {
-        return push_clean_iri_at(out, bytes, prefix.span(), name.span());
+        return push_clean_iri(out, prefix.text(bytes), name.text(bytes));
     }
     push_iri(out, prefix.text(bytes), name.text(bytes))
 }
@@ -37,12 +35,12 @@ fn push_tail(out: &mut Vec<u8>, bytes: &[u8], tail: KnownTail) -> Result<(), All
 {
     match tail {
         KnownTail::Simple => Ok(()),
-        KnownTail::Lang(tag) => push_tag_at(out, bytes, tag.span()),
+        KnownTail::Lang(tag) => push_tag(out, tag.text(bytes)),
         KnownTail::Typed(datatype) => {
             if datatype.is_xsd_string() {
                 return Ok(());
             }
-            push_datatype_at(out, bytes, datatype.span(), datatype.is_clean())
+            push_datatype(out, datatype.text(bytes), datatype.is_clean())
         }
     }
 }
@@ -56,9 +54,9 @@ pub fn push_known(out: &mut Vec<u8>, bytes: &[u8], term: &Known) -> Result<(), A
 {
     match term {
         Known::Iri { prefix, name } => push_iri_of(out, bytes, *prefix, *name),
-        Known::Bnode(label) => push_label_at(out, bytes, label.span()),
+        Known::Bnode(label) => push_label(out, label.text(bytes)),
         Known::Literal { lex, tail } => {
-            push_string_at(out, bytes, lex.span())?;
+            push_string(out, lex.text(bytes))?;
             push_tail(out, bytes, *tail)
         }
         Known::Triple(three) => push_three(out, bytes, term, three.get()),

@@ -10,7 +10,10 @@ mod count;
 mod decoding;
 mod frame;
 mod known;
+mod line;
 mod nowhere;
+mod page;
+mod placing;
 mod runs;
 mod statement;
 #[cfg(test)]

@@ -4,7 +4,8 @@ ghost use Rattle.jl_frames.specs.Index.{IsIndex, behind};
 ghost use Rattle.jl_frames.specs.Runs.{Cover, frames_before, groups_of, runs_per_wave, wave_of};
 ghost use Rattle.jl_rows.specs.Files.{all_rows};
 ghost use Rattle.jl_rows.specs.Seen.{options_seen};
-ghost use Rattle.jl_state.specs.Lawful.{state_seen, IsLawful};
+ghost use Rattle.jl_state.specs.Lawful.{state_seen};
+ghost use Rattle.jl_lines.specs.Kept.{Keeps};
 ghost use Rattle.jl_lines.specs.Going.{Comes, behind_frames, behind_runs, made};
 ghost use Rattle.jl_lines.specs.Writings.{written};
 
@@ -24,7 +25,7 @@ impl Decoding {
         run: Run,
         out: &mut K,
     ) -> Result<(), Broken>
-        requires lawful { IsLawful bytes.now self.old.state }
+        requires kept { Keeps bytes.now self.old }
         requires short { length bytes.now ≤ 2 ^ 30 }
         requires indexed { IsIndex bytes.now frames.now }
         requires first { 0 < run.first_frame }
@@ -35,7 +36,7 @@ impl Decoding {
             (K.held out.old) (K.held out.new) (K.faults out.old) (K.faults out.new) result }
         ensures few { OnOk result (self.new.counts.statements + self.new.counts.namespaces ≤ behind frames.now.bodies (run.first_frame - 1 + run.frames)) }
         ensures later { K.faults out.old ≤ K.faults out.new }
-        ensures lawful { OnOk result (IsLawful bytes.now self.new.state) }
+        ensures kept { OnOk result (Keeps bytes.now self.new) }
         ensures options { self.new.state.options ≡ self.old.state.options }
         ensures writing { self.new.writing ≡ self.old.writing }
     {
@@ -60,7 +61,7 @@ impl Decoding {
         w: u64,
         out: &mut K,
     ) -> Result<(), Broken>
-        requires lawful { IsLawful bytes.now self.old.state }
+        requires kept { Keeps bytes.now self.old }
         requires short { length bytes.now ≤ 2 ^ 30 }
         requires indexed { IsIndex bytes.now frames.now }
         requires cover { Cover frames.now.bodies 0 plan.now (length frames.now.bodies) }
@@ -71,7 +72,7 @@ impl Decoding {
             (K.held out.old) (K.held out.new) (K.faults out.old) (K.faults out.new) result }
         ensures few { OnOk result (self.new.counts.statements + self.new.counts.namespaces ≤ behind frames.now.bodies (frames_before plan.now (wave_of plan.now w).1)) }
         ensures later { K.faults out.old ≤ K.faults out.new }
-        ensures lawful { OnOk result (IsLawful bytes.now self.new.state) }
+        ensures kept { OnOk result (Keeps bytes.now self.new) }
         ensures options { self.new.state.options ≡ self.old.state.options }
         ensures writing { self.new.writing ≡ self.old.writing }
     {
@@ -91,7 +92,7 @@ impl Decoding {
         plan: &Plan,
         out: &mut K,
     ) -> Result<(), Broken>
-        requires lawful { IsLawful bytes.now self.old.state }
+        requires kept { Keeps bytes.now self.old }
         requires short { length bytes.now ≤ 2 ^ 30 }
         requires indexed { IsIndex bytes.now frames.now }
         requires cover { Cover frames.now.bodies 0 plan.now (length frames.now.bodies) }

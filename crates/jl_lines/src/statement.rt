@@ -1,26 +1,148 @@
-//! The line of a statement, from the last terms of a state.
-ghost use Rattle.std.specs.Prelude.{◌≡◌, ◌++◌, OnOk};
+//! The line of a statement, from the last terms of a state. It is written behind the first bytes of a page: each term is
+//! placed where it has the usual shape, and is else written aside first.
+ghost use Rattle.std.specs.Prelude.{◌≡◌, ◌+◌, ◌≤◌, ◌++◌, codes, length, slice_range, take, vec_len, IfOk, IsTrue};
 ghost use Rattle.jl_text.specs.Line.{line, graph_texts, term_text};
-ghost use Rattle.jl_lines.specs.Spaces.{after_space, graph_around, is_default};
-ghost use Rattle.jl_state.specs.KnownTerms.{known_value};
+ghost use Rattle.jl_lines.specs.Pages.{IsOrdered, IsStill};
+ghost use Rattle.jl_lines.specs.Spaces.{graph_around, is_default, with_spaces};
+ghost use Rattle.jl_state.specs.KnownTerms.{known_value, HasKnown};
 ghost use Rattle.jl_rows.specs.Seen.{options_seen};
 ghost use Rattle.jl_state.specs.Lawful.{state_seen, maybe_value, value_or_default, statement_of, HasMaybe, IsLawful};
 
 use crate::known::push_known;
+use crate::line::{Line, Repeats};
+use crate::placing::{END_ROOM, TERM_ROOM, place_known};
 use jl_state::{Known, State};
+use jl_text::{AGAIN, place_again, place_byte, place_pair};
 use std::alloc::AllocError;
 
-// Appends the text of a position's term.
+// How much room is made at once, in bytes.
+const SPARE: usize = 1 << 16;
+
+// Fills a page up where it has too little room behind a place for the end of a line.
+fn make_room(page: &mut Vec<u8>, end: usize) -> Result<(), AllocError>
+    ensures room { IfOk result (λ _. end + END_ROOM ≤ vec_len page.new) }
+    ensures kept { take (vec_len page.old) page.new.items ≡ page.old.items }
+    ensures longer { vec_len page.old ≤ vec_len page.new }
+{
+    if page.len() >= END_ROOM && page.len() - END_ROOM >= end {
+        return Ok(());
+    }
+    let Some(least) = end.checked_add(SPARE) else {
+        return Err(AllocError);
+    };
+    page.resize(least, 0)
+}
+
+/// Writes what stands aside behind the first bytes of a page.
+pub(crate) fn put_aside(page: &mut Vec<u8>, at: usize, aside: &[u8]) -> Result<usize, AllocError>
+    requires { at ≤ vec_len page.old }
+    ensures text { IfOk result (λ end. take end page.new.items ≡ take at page.old.items ++ aside.now) }
+    ensures room { IfOk result (λ end. end + END_ROOM ≤ vec_len page.new) }
+    ensures longer { vec_len page.old ≤ vec_len page.new }
+{
+    let end = at + aside.len();
+    make_room(page, end)?;
+    page[at..end].copy_from_slice(aside);
+    Ok(end)
+}
+
+// Writes any term's text, and a space.
+#[inline(never)]
+fn put_unusual(
+    page: &mut Vec<u8>,
+    aside: &mut Vec<u8>,
+    at: usize,
+    bytes: &[u8],
+    term: &Known,
+) -> Result<usize, AllocError>
+    requires inside { at ≤ vec_len page.old }
+    requires has { HasKnown bytes.now term.now }
+    ensures text { IfOk result (λ end. take end page.new.items ≡ take at page.old.items ++ (term_text (known_value bytes.now term.now) ++ codes " ")) }
+    ensures room { IfOk result (λ end. end + END_ROOM ≤ vec_len page.new) }
+    ensures longer { vec_len page.old ≤ vec_len page.new }
+{
+    aside.clear();
+    push_known(aside, bytes, term)?;
+    aside.push(b' ')?;
+    put_aside(page, at, aside)
+}
+
+// Writes a term's text, and a space.
+#[inline]
+fn put_known(
+    page: &mut Vec<u8>,
+    aside: &mut Vec<u8>,
+    at: usize,
+    bytes: &[u8],
+    term: &Known,
+) -> Result<usize, AllocError>
+    requires inside { at ≤ vec_len page.old }
+    requires has { HasKnown bytes.now term.now }
+    ensures text { IfOk result (λ end. take end page.new.items ≡ take at page.old.items ++ (term_text (known_value bytes.now term.now) ++ codes " ")) }
+    ensures room { IfOk result (λ end. end + 2 ≤ vec_len page.new) }
+    ensures longer { vec_len page.old ≤ vec_len page.new }
+{
+    if page.len() - at >= TERM_ROOM {
+        if let Some(end) = place_known(page.as_mut_slice(), at, bytes, term) {
+            return Ok(place_byte(page.as_mut_slice(), end, b' '));
+        }
+    }
+    put_unusual(page, aside, at, bytes, term)
+}
+
+// Writes the text of a position's term, and a space.
 #[inline]
 #[tactic(auto, unfolding(jl_text::specs::Line::term_text))]
-fn push_position(out: &mut Vec<u8>, bytes: &[u8], term: &Option<Known>) -> Result<(), AllocError>
-    requires { HasMaybe bytes.now term.now }
-    ensures { OnOk result (out.new.items ≡ out.old.items ++ term_text (value_or_default (maybe_value bytes.now term.now))) }
+fn put_position(
+    page: &mut Vec<u8>,
+    aside: &mut Vec<u8>,
+    at: usize,
+    bytes: &[u8],
+    term: &Option<Known>,
+) -> Result<usize, AllocError>
+    requires inside { at ≤ vec_len page.old }
+    requires has { HasMaybe bytes.now term.now }
+    ensures text { IfOk result (λ end. take end page.new.items ≡ take at page.old.items ++ (term_text (value_or_default (maybe_value bytes.now term.now)) ++ codes " ")) }
+    ensures room { IfOk result (λ end. end + 2 ≤ vec_len page.new) }
+    ensures longer { vec_len page.old ≤ vec_len page.new }
 {
     match term {
-        Some(known) => push_known(out, bytes, known),
-        None => Ok(()),
+        Some(known) => put_known(page, aside, at, bytes, known),
+        None => put_unusual(page, aside, at, bytes, &Known::Default),
     }
+}
+
+// What a position had in the last line: where it lies on the page, and whether the term is the same.
+#[derive(Clone, Copy)]
+struct Before {
+    is_same: bool,
+    from: usize,
+    end: usize,
+}
+
+// Writes the text of a position's term, and a space. Where the last line has the same, it is written again.
+#[inline]
+fn put_again(
+    page: &mut Vec<u8>,
+    aside: &mut Vec<u8>,
+    at: usize,
+    bytes: &[u8],
+    term: &Option<Known>,
+    before: Before,
+) -> Result<usize, AllocError>
+    requires inside { at ≤ vec_len page.old }
+    requires order { (before.from ≤ before.end) × (before.end ≤ at) }
+    requires has { HasMaybe bytes.now term.now }
+    requires same { IsTrue before.is_same → IsStill (slice_range page.old.items before.from before.end) (maybe_value bytes.now term.now) }
+    ensures text { IfOk result (λ end. take end page.new.items ≡ take at page.old.items ++ (term_text (value_or_default (maybe_value bytes.now term.now)) ++ codes " ")) }
+    ensures room { IfOk result (λ end. end + 2 ≤ vec_len page.new) }
+    ensures longer { vec_len page.old ≤ vec_len page.new }
+{
+    let len = before.end - before.from;
+    if before.is_same && len > 0 && len <= AGAIN && page.len() - at >= TERM_ROOM {
+        return Ok(place_again(page.as_mut_slice(), at, before.from, len));
+    }
+    put_position(page, aside, at, bytes, term)
 }
 
 // The term is the default graph.
@@ -37,48 +159,110 @@ fn is_default(bytes: &[u8], term: &Known) -> bool
     }
 }
 
-// Appends the graph's text and the space before it; the default graph has neither.
+// Writes the graph's text, and a space behind it; the default graph has neither.
 #[inline]
-fn push_graph(out: &mut Vec<u8>, bytes: &[u8], graph: &Option<Known>) -> Result<(), AllocError>
-    requires { HasMaybe bytes.now graph.now }
-    ensures { OnOk result (out.new.items ≡ out.old.items ++ after_space (graph_texts (value_or_default (maybe_value bytes.now graph.now)))) }
+fn put_graph(
+    page: &mut Vec<u8>,
+    aside: &mut Vec<u8>,
+    at: usize,
+    bytes: &[u8],
+    graph: &Option<Known>,
+) -> Result<usize, AllocError>
+    requires room { at + 2 ≤ vec_len page.old }
+    requires has { HasMaybe bytes.now graph.now }
+    ensures text { IfOk result (λ end. take end page.new.items ≡ take at page.old.items ++ with_spaces (graph_texts (value_or_default (maybe_value bytes.now graph.now)))) }
+    ensures room { IfOk result (λ end. end + 2 ≤ vec_len page.new) }
+    ensures longer { vec_len page.old ≤ vec_len page.new }
 {
     let Some(known) = graph else {
-        return Ok(());
+        return Ok(at);
     };
     if is_default(bytes, known) {
-        return Ok(());
+        return Ok(at);
     }
-    out.push(b' ')?;
-    push_known(out, bytes, known)?;
-    Ok(())
+    put_known(page, aside, at, bytes, known)
 }
 
-// Appends the graph that a statement stands in, with the space before it.
-fn push_graph_around(out: &mut Vec<u8>, bytes: &[u8], state: &State) -> Result<(), AllocError>
-    requires { IsLawful bytes.now state.now }
-    ensures { OnOk result (out.new.items ≡ out.old.items ++ after_space (graph_around (options_seen bytes.now state.now.options) (state_seen bytes.now state.now))) }
+// Writes the graph that a statement stands in, and a space behind it.
+fn put_graph_around(
+    page: &mut Vec<u8>,
+    aside: &mut Vec<u8>,
+    at: usize,
+    bytes: &[u8],
+    state: &State,
+) -> Result<usize, AllocError>
+    requires room { at + 2 ≤ vec_len page.old }
+    requires lawful { IsLawful bytes.now state.now }
+    ensures text { IfOk result (λ end. take end page.new.items ≡ take at page.old.items ++ with_spaces (graph_around (options_seen bytes.now state.now.options) (state_seen bytes.now state.now))) }
+    ensures room { IfOk result (λ end. end + 2 ≤ vec_len page.new) }
+    ensures longer { vec_len page.old ≤ vec_len page.new }
 {
     if state.options.physical == 2 {
-        return push_graph(out, bytes, &state.graph);
+        return put_graph(page, aside, at, bytes, &state.graph);
     }
     if state.options.physical == 3 {
-        return push_graph(out, bytes, &state.open_graph);
+        return put_graph(page, aside, at, bytes, &state.open_graph);
     }
-    Ok(())
+    Ok(at)
 }
 
-/// Appends the line of the state's last terms.
-pub fn push_statement(out: &mut Vec<u8>, bytes: &[u8], state: &State) -> Result<(), AllocError>
-    requires { IsLawful bytes.now state.now }
-    ensures { OnOk result (out.new.items ≡ out.old.items ++ line (statement_of (options_seen bytes.now state.now.options) (state_seen bytes.now state.now))) }
+// Ends a line.
+#[inline]
+fn put_end(page: &mut Vec<u8>, at: usize) -> usize
+    requires { at + 2 ≤ vec_len page.old }
+    ensures text { take result page.new.items ≡ take at page.old.items ++ codes ".\n" }
+    ensures room { result ≤ vec_len page.new }
+    ensures longer { vec_len page.new ≡ vec_len page.old }
 {
-    push_position(out, bytes, &state.subject)?;
-    out.push(b' ')?;
-    push_position(out, bytes, &state.predicate)?;
-    out.push(b' ')?;
-    push_position(out, bytes, &state.object)?;
-    push_graph_around(out, bytes, state)?;
-    out.extend_from_slice(b" .\n")?;
-    Ok(())
+    place_pair(page.as_mut_slice(), at, b'.', b'\n')
+}
+
+/// Writes the line of the state's last terms behind the last line.
+#[inline]
+pub(crate) fn put_statement(
+    page: &mut Vec<u8>,
+    aside: &mut Vec<u8>,
+    last: Line,
+    bytes: &[u8],
+    state: &State,
+    repeats: Repeats,
+) -> Result<Line, AllocError>
+    requires ordered { IsOrdered last (vec_len page.old) }
+    requires lawful { IsLawful bytes.now state.now }
+    requires subject { IsTrue repeats.subject → IsStill (slice_range page.old.items last.start last.subject) (maybe_value bytes.now state.now.subject) }
+    requires predicate { IsTrue repeats.predicate → IsStill (slice_range page.old.items last.subject last.predicate) (maybe_value bytes.now state.now.predicate) }
+    requires object { IsTrue repeats.object → IsStill (slice_range page.old.items last.predicate last.object) (maybe_value bytes.now state.now.object) }
+    ensures text { IfOk result (λ l. take l.end page.new.items ≡ take last.end page.old.items ++ line (statement_of (options_seen bytes.now state.now.options) (state_seen bytes.now state.now))) }
+    ensures ordered { IfOk result (λ l. IsOrdered l (vec_len page.new)) }
+    ensures subject { IfOk result (λ l. slice_range page.new.items l.start l.subject ≡ term_text (value_or_default (maybe_value bytes.now state.now.subject)) ++ codes " ") }
+    ensures predicate { IfOk result (λ l. slice_range page.new.items l.subject l.predicate ≡ term_text (value_or_default (maybe_value bytes.now state.now.predicate)) ++ codes " ") }
+    ensures object { IfOk result (λ l. slice_range page.new.items l.predicate l.object ≡ term_text (value_or_default (maybe_value bytes.now state.now.object)) ++ codes " ") }
+    ensures longer { vec_len page.old ≤ vec_len page.new }
+{
+    let first = Before {
+        is_same: repeats.subject,
+        from: last.start,
+        end: last.subject,
+    };
+    let subject = put_again(page, aside, last.end, bytes, &state.subject, first)?;
+    let second = Before {
+        is_same: repeats.predicate,
+        from: last.subject,
+        end: last.predicate,
+    };
+    let predicate = put_again(page, aside, subject, bytes, &state.predicate, second)?;
+    let third = Before {
+        is_same: repeats.object,
+        from: last.predicate,
+        end: last.object,
+    };
+    let object = put_again(page, aside, predicate, bytes, &state.object, third)?;
+    let behind = put_graph_around(page, aside, object, bytes, state)?;
+    Ok(Line {
+        start: last.end,
+        subject,
+        predicate,
+        object,
+        end: put_end(page, behind),
+    })
 }

@@ -29,7 +29,7 @@ pub enum Ended {
 
 /// Gives a sink the lines of what a file states, up to its first fault. The file is decoded by waves of runs of `per`
 /// frames, and a wave's lines are given before the next one begins. Takes the state's tables, eight bytes for each slot
-/// that the options allow, the index of the frames, and a buffer of lines.
+/// that the options allow, the index of the frames, and a page of lines.
 pub fn write_lines<K: Sink>(alloc: Global, space: &Space, per: u32, out: &mut K) -> Ended
     requires short { length space.now ≤ 2 ^ 30 }
     requires some { 0 < per }
@@ -73,9 +73,9 @@ fn write_under<K: Sink>(
 }
 
 impl Decoding {
-    // Gives the sink what is left of the buffer, where the lines in it are to be given.
+    // Gives the sink what is left on the page, where its lines are to be given.
     fn end<K: Sink>(&self, came: Result<(), Broken>, out: &mut K) -> Ended
-        ensures ends { Ends self.now.buffer.items came (K.held out.old) (K.held out.new) (K.faults out.old) (K.faults out.new) result }
+        ensures ends { Ends self.now.page.lines came (K.held out.old) (K.held out.new) (K.faults out.old) (K.faults out.new) result }
         ensures later { K.faults out.old ≤ K.faults out.new }
     {
         let ended = match came {
@@ -84,7 +84,7 @@ impl Decoding {
             Err(Broken::WriteFault) => return Ended::WriteFault,
             Err(Broken::NoMemory) => return Ended::NoMemory,
         };
-        match write_all(out, &self.buffer) {
+        match write_all(out, self.page.lines()) {
             Ok(()) => ended,
             Err(_) => Ended::WriteFault,
         }

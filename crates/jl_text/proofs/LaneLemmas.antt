@@ -1,8 +1,8 @@
 -- From the mask of a load to the bytes under it.
-use Rattle.std.proofs.Common.{◌≡◌, ℕ, ◌+◌, ◌%◌, ◌^◌, ◌<◌, ◌≤◌, Bool, true, false, not, List, map, length, get_or, nat_eq, leb, Fits, w8, sym, ap, ◌∙◌, arith, inl, inr}
-use Rattle.std.proofs.lemmas.Bool.{agree_below, agree_below_at, not-false, eqb-true, leb-true, le-leb, cases_eq}
+use Rattle.std.proofs.Common.{◌≡◌, ℕ, ◌+◌, ◌%◌, ◌^◌, ◌<◌, ◌≤◌, Bool, true, false, not, List, map, length, get_or, nat_eq, leb, Fits, w8, refl, sym, ap, ◌∙◌, arith, inl, inr}
+use Rattle.std.proofs.lemmas.Bool.{agree_below, agree_below_at, not-false, not-true, eqb-true, leb-true, le-leb, cases_eq, cases_lt}
 use Rattle.std.proofs.lemmas.List.{length-map}
-use Rattle.std.proofs.lemmas.Simd.{map-map, mask_l-mod, length-chunk, none_from_empty_mask, trailing_mask_l, run_in_chunk_fails}
+use Rattle.std.proofs.lemmas.Simd.{map-map, mask_l-mod, length-chunk, none_from_empty_mask, trailing_mask_l, run_in_chunk_fails, run_in_chunk_stops}
 use lib.Count.{count_trailing_zeros}
 use lib.Lanes.{chunk, mask_l, top}
 use Rattle.jl_text.specs.declared.escape.Terminal.{Terminal}
@@ -46,3 +46,32 @@ module _ (t : Terminal) (text : List ℕ) (at n : ℕ) (z : List ℕ) (f : ℕ �
 
   pub raw_before_first : n < count_trailing_zeros 64 (mask_l (map (top 7) z) % 2 ^ 64) → AreRaw t text at (at + n)
   raw_before_first past = raw_below_first n (omega arith) (le-leb n _ (omega (arith, past)))
+
+  empty_counts : (m : ℕ) → m ≡ 0 → count_trailing_zeros 64 m ≡ 64
+  unfolding count_trailing_zeros
+  empty_counts m none = ap (count_trailing_zeros 64) none
+
+  -- the byte under the lowest bit
+  pub escaped_at_first : (len : ℕ) → len ≡ count_trailing_zeros 64 (mask_l (map (top 7) z) % 2 ^ 64) → len < n → is_raw t (get_or text (at + len) 0) ≡ false
+  escaped_at_first len is within =
+      let m = mask_l (map stops (chunk at n text)) in
+      let counted : len ≡ count_trailing_zeros 64 m = is ∙ ap (count_trailing_zeros 64) mask in
+      elim (cases_eq m 0) [
+        | inl none ↦ absurd (omega (arith, counted, empty_counts m none))
+        | inr some ↦
+            let first = trailing_mask_l stops 64 (chunk at n text) (omega (arith, length-chunk at n text room)) (omega arith) in
+            let set = run_in_chunk_stops stops text at n len 0 room (counted ∙ first) within in
+            not-true _ (sym (agree_below_at stops (λ x. not (is_raw t x)) 256 (get_or text (at + len) 0) table (fits (at + len)).fits) ∙ set)
+      ]
+
+  -- where the bytes stand for themselves, the lowest bits are not set
+  pub lowest_of_raw : (len : ℕ) → len ≤ n → AreRaw t text at (at + len) → leb len (count_trailing_zeros 64 (mask_l (map (top 7) z) % 2 ^ 64)) ≡ true
+  lowest_of_raw len within raw =
+      let found = count_trailing_zeros 64 (mask_l (map (top 7) z) % 2 ^ 64) in
+      elim (cases_lt found len) [
+        | inl less ↦
+            let stopped = escaped_at_first found refl (omega (arith, less, within)) in
+            let passed = raw (at + found) (omega arith) (omega (arith, less)) in
+            absurd (cc)
+        | inr beyond ↦ le-leb len found beyond
+      ]

@@ -7,3 +7,5 @@ pub mod CleanLemmas
 pub mod WideLemmas
 pub mod LabelLemmas
 pub mod StatementLemmas
+pub mod StringLemmas
+pub mod PlaceLemmas

@@ -3,3 +3,4 @@ pub mod Escapes
 pub mod Notices
 pub mod Labels
 pub mod Graphs
+pub mod Places

@@ -1,11 +1,13 @@
 //! The bytes that are written otherwise, in each terminal of the grammar whose text is free.
-ghost use Rattle.std.specs.Prelude.{◌≡◌, ◌+◌, ◌<◌, ◌≤◌, ◌++◌, true, false, length, OnOk, IsTrue};
+ghost use Rattle.std.specs.Prelude.{◌≡◌, ◌+◌, ◌-◌, ◌*◌, ◌<◌, ◌≤◌, ◌++◌, true, false, length, slice_range, OnOk, IsTrue};
 ghost use Rattle.std.specs.Fmt.{digit_glyph};
 ghost use Rattle.std.specs.List.{list_all};
-ghost use Rattle.jl_text.specs.Line.{unicode_escape, label_escape, string_byte};
+ghost use Rattle.jl_text.specs.Line.{unicode_escape, label_escape, string_byte, string_escaped};
 ghost use Rattle.jl_text.specs.Escapes.{byte_text, is_raw, escaped, RawUpTo, RawRun};
+ghost use Rattle.jl_text.specs.Places.{Placed};
 
-use crate::lanes::past_string_blocks;
+use crate::lanes::{LANES, WIDE_LANES, past_string_blocks, raw_front, raw_wide_front};
+use crate::place::{place_block, place_pair};
 use std::alloc::AllocError;
 
 /// The terminals in which some bytes are escaped.
@@ -26,6 +28,19 @@ static RAW: [u8; 256] = [
     3, 3, 3, 3, 3, 3, 3, 3, 3, 3, 3, 3, 3, 3, 3, 3, 3, 3, 3, 3, 3, 3, 3, 3, 3, 3, 3, 3, 3, 3, 3, 3,
     3, 3, 3, 3, 3, 3, 3, 3, 3, 3, 3, 3, 3, 3, 3, 3, 3, 3, 3, 3, 3, 3, 3, 3, 3, 3, 3, 3, 3, 3, 3, 3,
     3, 3, 3, 3, 3, 3, 3, 3, 3, 3, 3, 3, 3, 3, 3, 3, 3, 3, 3, 3, 3, 3, 3, 3, 3, 3, 3, 3, 3, 3, 3, 3,
+];
+
+// What stands behind the backslash in the ECHAR of a byte; 0 for a byte that has none.
+static LETTERS: [u8; 256] = [
+    0, 0, 0, 0, 0, 0, 0, 0, 98, 116, 110, 0, 102, 114, 0, 0, 0, 0, 0, 0, 0, 0, 0, 0, 0, 0, 0, 0, 0,
+    0, 0, 0, 0, 0, 34, 0, 0, 0, 0, 0, 0, 0, 0, 0, 0, 0, 0, 0, 0, 0, 0, 0, 0, 0, 0, 0, 0, 0, 0, 0,
+    0, 0, 0, 0, 0, 0, 0, 0, 0, 0, 0, 0, 0, 0, 0, 0, 0, 0, 0, 0, 0, 0, 0, 0, 0, 0, 0, 0, 0, 0, 0, 0,
+    92, 0, 0, 0, 0, 0, 0, 0, 0, 0, 0, 0, 0, 0, 0, 0, 0, 0, 0, 0, 0, 0, 0, 0, 0, 0, 0, 0, 0, 0, 0,
+    0, 0, 0, 0, 0, 0, 0, 0, 0, 0, 0, 0, 0, 0, 0, 0, 0, 0, 0, 0, 0, 0, 0, 0, 0, 0, 0, 0, 0, 0, 0, 0,
+    0, 0, 0, 0, 0, 0, 0, 0, 0, 0, 0, 0, 0, 0, 0, 0, 0, 0, 0, 0, 0, 0, 0, 0, 0, 0, 0, 0, 0, 0, 0, 0,
+    0, 0, 0, 0, 0, 0, 0, 0, 0, 0, 0, 0, 0, 0, 0, 0, 0, 0, 0, 0, 0, 0, 0, 0, 0, 0, 0, 0, 0, 0, 0, 0,
+    0, 0, 0, 0, 0, 0, 0, 0, 0, 0, 0, 0, 0, 0, 0, 0, 0, 0, 0, 0, 0, 0, 0, 0, 0, 0, 0, 0, 0, 0, 0, 0,
+    0, 0, 0, 0, 0,
 ];
 
 #[tactic(auto, using(crate::proofs::EscapeLemmas::table_of_iris, crate::proofs::EscapeLemmas::table_of_strings, crate::proofs::EscapeLemmas::table_of_labels))]
@@ -152,4 +167,91 @@ pub(crate) fn push_escaped(
         at = end + 1;
     }
     Ok(())
+}
+
+fn place_unicode_escape(page: &mut [u8], at: usize, b: u8) -> usize
+    requires { at + 6 ≤ length page.old }
+    ensures placed { Placed page.old page.new at (unicode_escape b) result }
+    ensures end { result ≡ at + 6 }
+{
+    let sign = place_pair(page, at, b'\\', b'u');
+    let zeros = place_pair(page, sign, b'0', b'0');
+    let high = hexadecimal_digit(b / 16);
+    let low = hexadecimal_digit(b % 16);
+    place_pair(page, zeros, high, low)
+}
+
+// Writes the escape of a byte. A table has no branch on which of the ECHARs it is.
+#[inline]
+fn place_string_escape(page: &mut [u8], at: usize, b: u8) -> usize
+    requires escaped { is_raw Terminal.StringLiteral b ≡ false }
+    requires room { at + 6 ≤ length page.old }
+    ensures placed { Placed page.old page.new at (string_byte b) result }
+    ensures end { result ≤ at + 6 }
+{
+    let letter = LETTERS[b as usize];
+    if letter == 0 {
+        return place_unicode_escape(page, at, b);
+    }
+    place_pair(page, at, b'\\', letter)
+}
+
+// Writes a part of some bytes at a place of a page, as a string has it: as blocks, of which the bytes up to the first
+// that is escaped count.
+fn place_escaped_end(page: &mut [u8], at: usize, bytes: &[u8], from: usize, end: usize) -> usize
+    requires order { from ≤ end }
+    requires inside { end + LANES ≤ length bytes.now }
+    requires room { at + 6 * (end - from) + LANES ≤ length page.old }
+    ensures placed { Placed page.old page.new at (string_escaped (slice_range bytes.now from end)) result }
+    ensures end { result ≤ at + 6 * (end - from) }
+{
+    let mut place = at;
+    let mut next = from;
+    'by_front: loop {
+        let front = raw_front(bytes, next);
+        if front >= end - next {
+            return place_block::<LANES>(page, place, bytes, next, end - next);
+        }
+        if front == LANES {
+            place = place_block::<LANES>(page, place, bytes, next, LANES);
+            next += LANES;
+            continue 'by_front;
+        }
+        let stop = place_block::<LANES>(page, place, bytes, next, front);
+        place = place_string_escape(page, stop, bytes[next + front]);
+        next = next + front + 1;
+    }
+}
+
+/// The same in wide blocks, as far as there is room for them.
+pub(crate) fn place_escaped(
+    page: &mut [u8],
+    at: usize,
+    bytes: &[u8],
+    from: usize,
+    end: usize,
+) -> usize
+    requires order { from ≤ end }
+    requires inside { end + LANES ≤ length bytes.now }
+    requires room { at + 6 * (end - from) + LANES ≤ length page.old }
+    ensures placed { Placed page.old page.new at (string_escaped (slice_range bytes.now from end)) result }
+    ensures end { result ≤ at + 6 * (end - from) }
+{
+    let mut place = at;
+    let mut next = from;
+    'by_wide_front: while bytes.len() - next >= WIDE_LANES && page.len() - place >= WIDE_LANES {
+        let raw = raw_wide_front(bytes, next);
+        if raw >= end - next {
+            return place_block::<WIDE_LANES>(page, place, bytes, next, end - next);
+        }
+        if raw == WIDE_LANES {
+            place = place_block::<WIDE_LANES>(page, place, bytes, next, WIDE_LANES);
+            next += WIDE_LANES;
+            continue 'by_wide_front;
+        }
+        let stop = place_block::<WIDE_LANES>(page, place, bytes, next, raw);
+        place = place_string_escape(page, stop, bytes[next + raw]);
+        next = next + raw + 1;
+    }
+    place_escaped_end(page, place, bytes, next, end)
 }

@@ -1,11 +1,12 @@
 //! Many bytes at once: whether they all stand for themselves.
-ghost use Rattle.std.specs.Prelude.{◌≡◌, ◌+◌, ◌<◌, ◌≤◌, length, IsTrue};
-ghost use Rattle.jl_text.specs.Escapes.{AreRaw, RawUpTo};
+ghost use Rattle.std.specs.Prelude.{◌≡◌, ◌+◌, ◌<◌, ◌≤◌, false, length, slice_index, IsTrue};
+ghost use Rattle.jl_text.specs.Escapes.{is_raw, AreRaw, RawUpTo};
 
 use crate::escape::{Terminal, is_clean};
 use std::simd::prelude::*;
 
-const WIDE_LANES: usize = 64;
+/// The bytes that are tested at once of a long string.
+pub(crate) const WIDE_LANES: usize = 64;
 
 /// The bytes that are tested for a label that is shorter still.
 pub(crate) const LANES: usize = 16;
@@ -37,12 +38,13 @@ fn is_raw_block(text: &[u8], at: usize) -> bool
     (is_control | is_echar).to_bitmask() == 0
 }
 
-// How many bytes of a block stand for themselves before the first that doesn't.
+/// How many bytes of a block stand for themselves before the first that doesn't.
 #[inline(always)]
-fn raw_front(text: &[u8], at: usize) -> usize
+pub(crate) fn raw_front(text: &[u8], at: usize) -> usize
     requires { at + LANES ≤ length text.now }
     ensures size { result ≤ LANES }
     ensures raw { AreRaw Terminal.StringLiteral text.now at (at + result) }
+    ensures stops { result < LANES → is_raw Terminal.StringLiteral (slice_index text.now (at + result)) ≡ false }
 {
     let v = u8x16::from_slice(&text[at..]);
     let is_control = v.simd_lt(u8x16::splat(b' ')) | v.simd_eq(u8x16::splat(0x7f));
@@ -53,6 +55,20 @@ fn raw_front(text: &[u8], at: usize) -> usize
         return LANES;
     }
     first
+}
+
+/// The same of a wide block.
+#[inline(always)]
+pub(crate) fn raw_wide_front(text: &[u8], at: usize) -> usize
+    requires { at + WIDE_LANES ≤ length text.now }
+    ensures size { result ≤ WIDE_LANES }
+    ensures raw { AreRaw Terminal.StringLiteral text.now at (at + result) }
+    ensures stops { result < WIDE_LANES → is_raw Terminal.StringLiteral (slice_index text.now (at + result)) ≡ false }
+{
+    let v = u8x64::from_slice(&text[at..]);
+    let is_control = v.simd_lt(u8x64::splat(b' ')) | v.simd_eq(u8x64::splat(0x7f));
+    let is_quoted = v.simd_eq(u8x64::splat(b'\\')) | v.simd_eq(u8x64::splat(b'"'));
+    (is_control | is_quoted).to_bitmask().trailing_zeros() as usize
 }
 
 #[inline(always)]
@@ -85,7 +101,8 @@ pub(crate) fn is_raw_string_front(text: &[u8], at: usize, len: usize) -> bool
 pub(crate) fn is_raw_label_front(text: &[u8], at: usize, len: usize) -> bool
     requires room { at + SHORT ≤ length text.now }
     requires within { len ≤ SHORT }
-    ensures { IsTrue result → AreRaw Terminal.BlankNodeLabel text.now at (at + len) }
+    ensures raw { IsTrue result → AreRaw Terminal.BlankNodeLabel text.now at (at + len) }
+    ensures where_raw { AreRaw Terminal.BlankNodeLabel text.now at (at + len) → IsTrue result }
 {
     let v = u8x32::from_slice(&text[at..]);
     let from_a = (v | u8x32::splat(0x20)) - u8x32::splat(b'a');

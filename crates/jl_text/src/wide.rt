@@ -1,100 +1,68 @@
-//! The same parts at their places in a file. A text is copied as 32 or 64 bytes, which the file nearly always has from
-//! its place on, and then cut: a copy of one fixed size has no branch on the text's length.
-ghost use Rattle.std.specs.Prelude.{◌≡◌, ℕ, ◌+◌, ◌≤◌, ◌++◌, length, take, codes, OnOk, IsTrue};
+//! The parts of a line at their places in a file, placed on a page. A text is written as one block of 16, 32 or 64 bytes,
+//! which the file nearly always has from its place on, and its first bytes count. A string is written as many. Another
+//! part that is longer, or has escapes, isn't placed: the writers of whole texts append it.
+ghost use Rattle.std.specs.Prelude.{◌≡◌, ℕ, ◌+◌, ◌*◌, ◌<◌, ◌≤◌, ◌++◌, length, codes, IfSome, IsSome, IsTrue};
 ghost use Rattle.jl_base.specs.Spans.{text_of, IsInside};
+ghost use Rattle.jl_text.specs.Escapes.{AreRaw};
 ghost use Rattle.jl_text.specs.Line.{iri_escaped, iri_text, string_escaped, string_text, label_written};
+ghost use Rattle.jl_text.specs.Places.{Placed, Places};
 
+use crate::escape::{Terminal, place_escaped};
 use crate::lanes::{LANES, SHORT, is_raw_label_front, is_raw_short_label, is_raw_string_front};
-use crate::term::{push_clean_iri, push_datatype, push_label, push_string, push_tag};
+use crate::place::{place_block, place_byte, place_pair};
 use jl_base::Span;
-use std::alloc::AllocError;
-use std::simd::prelude::*;
 
-// The bytes that are copied for a prefix or a whole IRI.
+// The bytes that are written for a part of an IRI at most.
 const LONG: usize = 64;
 
-#[inline(always)]
-fn text_at(bytes: &[u8], span: Span) -> &[u8]
-    requires { IsInside bytes.now span }
-    ensures { result.now ≡ text_of bytes.now span }
-{
-    let at = span.at as usize;
-    &bytes[at..at + span.len as usize]
-}
+/// The room that an IRI takes at most, in bytes.
+pub const IRI_ROOM: usize = 130;
 
-// Whether the bytes can be read that are copied for the text.
+/// The room that a literal's short string takes at most, in bytes.
+pub const STRING_ROOM: usize = 34;
+
+/// The room that a blank node takes at most, in bytes.
+pub const LABEL_ROOM: usize = 34;
+
+/// The room that a literal's language tag takes at most, in bytes.
+pub const TAG_ROOM: usize = 33;
+
+/// The room that a literal's datatype takes at most, in bytes.
+pub const DATATYPE_ROOM: usize = 68;
+
+// Whether the file has the bytes that are read for the text.
 #[inline(always)]
 fn is_within(bytes: &[u8], span: Span, width: usize) -> bool
     requires { IsInside bytes.now span }
-    ensures { IsTrue result → (span.len ≤ width) × (span.at + width ≤ length bytes.now) }
+    ensures within { IsTrue result → (span.len ≤ width) × (span.at + width ≤ length bytes.now) }
+    ensures where_within { span.len ≤ width → span.at + width ≤ length bytes.now → IsTrue result }
 {
     span.len as usize <= width && bytes.len() - span.at as usize >= width
 }
 
-// The copy has a place of its own, so that its way into the text needs no test whether both overlap.
 #[inline(always)]
-fn push_front(out: &mut Vec<u8>, copy: &[u8], len: usize) -> Result<(), AllocError>
-    requires { len ≤ length copy.now }
-    ensures { OnOk result (out.new.items ≡ out.old.items ++ take len copy.now) }
-{
-    out.extend_from_slice(copy)?;
-    let end = out.len() - (copy.len() - len);
-    out.truncate(end);
-    Ok(())
-}
-
-#[inline(always)]
-fn push_short(out: &mut Vec<u8>, bytes: &[u8], span: Span) -> Result<(), AllocError>
+fn place_short(page: &mut [u8], at: usize, bytes: &[u8], span: Span) -> usize
     requires short { span.len ≤ SHORT }
-    requires room { span.at + SHORT ≤ length bytes.now }
-    ensures { OnOk result (out.new.items ≡ out.old.items ++ text_of bytes.now span) }
+    requires inside { span.at + SHORT ≤ length bytes.now }
+    requires room { at + SHORT ≤ length page.old }
+    ensures placed { Placed page.old page.new at (text_of bytes.now span) result }
+    ensures end { result ≡ at + span.len }
 {
-    let copy = u8x32::from_slice(&bytes[span.at as usize..]).to_array();
-    push_front(out, &copy, span.len as usize)
+    place_block::<SHORT>(page, at, bytes, span.at as usize, span.len as usize)
 }
 
 #[inline(always)]
-fn push_long(out: &mut Vec<u8>, bytes: &[u8], span: Span) -> Result<(), AllocError>
+fn place_long(page: &mut [u8], at: usize, bytes: &[u8], span: Span) -> usize
     requires long { span.len ≤ LONG }
-    requires room { span.at + LONG ≤ length bytes.now }
-    ensures { OnOk result (out.new.items ≡ out.old.items ++ text_of bytes.now span) }
+    requires inside { span.at + LONG ≤ length bytes.now }
+    requires room { at + LONG ≤ length page.old }
+    ensures placed { Placed page.old page.new at (text_of bytes.now span) result }
+    ensures end { result ≡ at + span.len }
 {
     if span.len as usize <= SHORT {
-        return push_short(out, bytes, span);
+        return place_short(page, at, bytes, span);
     }
-    let copy = u8x64::from_slice(&bytes[span.at as usize..]).to_array();
-    push_front(out, &copy, span.len as usize)
-}
-
-// A short text's bytes are copied behind the `<`, and both are then one append.
-#[inline(always)]
-fn push_opened_short(out: &mut Vec<u8>, bytes: &[u8], span: Span) -> Result<(), AllocError>
-    requires short { span.len ≤ SHORT }
-    requires room { span.at + SHORT ≤ length bytes.now }
-    ensures { OnOk result (out.new.items ≡ out.old.items ++ (codes "<" ++ text_of bytes.now span)) }
-{
-    let v = u8x32::from_slice(&bytes[span.at as usize..]).to_array();
-    let copy = [
-        b'<', v[0], v[1], v[2], v[3], v[4], v[5], v[6], v[7], v[8], v[9], v[10], v[11], v[12],
-        v[13], v[14], v[15], v[16], v[17], v[18], v[19], v[20], v[21], v[22], v[23], v[24], v[25],
-        v[26], v[27], v[28], v[29], v[30], v[31],
-    ];
-    push_front(out, &copy, 1 + span.len as usize)
-}
-
-// The start of an IRI.
-#[inline(always)]
-fn push_opened(out: &mut Vec<u8>, bytes: &[u8], prefix: Span) -> Result<(), AllocError>
-    requires long { prefix.len ≤ LONG }
-    requires room { prefix.at + LONG ≤ length bytes.now }
-    ensures { OnOk result (out.new.items ≡ out.old.items ++ (codes "<" ++ text_of bytes.now prefix)) }
-{
-    if prefix.len as usize <= SHORT {
-        return push_opened_short(out, bytes, prefix);
-    }
-    out.push(b'<')?;
-    push_long(out, bytes, prefix)?;
-    Ok(())
+    place_block::<LONG>(page, at, bytes, span.at as usize, span.len as usize)
 }
 
 #[inline(always)]
@@ -106,40 +74,44 @@ fn later(a: u64, b: u64) -> u64
     if a < b { b } else { a }
 }
 
-// Whether the bytes can be read that are copied for a prefix and a name. One test serves both places.
+// Whether the file has the bytes that are read for a prefix and a name. One test serves both places.
 #[inline(always)]
 fn are_within(bytes: &[u8], prefix: Span, name: Span) -> bool
     requires prefix { IsInside bytes.now prefix }
     requires name { IsInside bytes.now name }
     ensures prefix { IsTrue result → (prefix.len ≤ LONG) × (prefix.at + LONG ≤ length bytes.now) }
-    ensures name { IsTrue result → (name.len ≤ SHORT) × (name.at + SHORT ≤ length bytes.now) }
+    ensures name { IsTrue result → (name.len ≤ LONG) × (name.at + LONG ≤ length bytes.now) }
+    ensures where_within { prefix.len ≤ LONG → name.len ≤ LONG → prefix.at + LONG ≤ length bytes.now → name.at + LONG ≤ length bytes.now → IsTrue result }
 {
     let last = later(prefix.at, name.at) as usize;
-    prefix.len as usize <= LONG && name.len as usize <= SHORT && bytes.len() - last >= LONG
+    prefix.len as usize <= LONG && name.len as usize <= LONG && bytes.len() - last >= LONG
 }
 
-/// Appends the IRI whose text is a prefix and a name that an IRI has as they are.
+/// Places the IRI whose text is a prefix and a name that an IRI has as they are.
 #[inline]
-pub fn push_clean_iri_at(
-    out: &mut Vec<u8>,
+pub fn place_iri(
+    page: &mut [u8],
+    at: usize,
     bytes: &[u8],
     prefix: Span,
     name: Span,
-) -> Result<(), AllocError>
+) -> Option<usize>
+    requires room { at + IRI_ROOM ≤ length page.old }
     requires prefix_inside { IsInside bytes.now prefix }
     requires name_inside { IsInside bytes.now name }
     requires prefix_clean { iri_escaped (text_of bytes.now prefix) ≡ text_of bytes.now prefix }
     requires name_clean { iri_escaped (text_of bytes.now name) ≡ text_of bytes.now name }
-    ensures { OnOk result
-        (out.new.items ≡ out.old.items ++ iri_text (text_of bytes.now prefix ++ text_of bytes.now name)) }
+    ensures placed { Places page.old page.new at (iri_text (text_of bytes.now prefix ++ text_of bytes.now name)) result }
+    ensures room { IfSome result (λ end. end ≤ at + IRI_ROOM) }
+    ensures where_placed { prefix.len ≤ LONG → name.len ≤ LONG → prefix.at + LONG ≤ length bytes.now → name.at + LONG ≤ length bytes.now → IsSome result }
 {
     if !are_within(bytes, prefix, name) {
-        return push_clean_iri(out, text_at(bytes, prefix), text_at(bytes, name));
+        return None;
     }
-    push_opened(out, bytes, prefix)?;
-    push_short(out, bytes, name)?;
-    out.push(b'>')?;
-    Ok(())
+    let begin = place_byte(page, at, b'<');
+    let middle = place_long(page, begin, bytes, prefix);
+    let end = place_long(page, middle, bytes, name);
+    Some(place_byte(page, end, b'>'))
 }
 
 // A short literal without escapes.
@@ -153,19 +125,53 @@ fn is_plain_string(bytes: &[u8], lex: Span) -> bool
     is_within(bytes, lex, SHORT) && is_raw_string_front(bytes, lex.at as usize, lex.len as usize)
 }
 
-/// Appends a literal's string, in its quotes.
+// Places a string of any length, escapes and all. Each of its bytes may take six.
+#[inline(never)]
+fn place_long_string(
+    page: &mut [u8],
+    at: usize,
+    bytes: &[u8],
+    lex: Span,
+    behind: usize,
+) -> Option<usize>
+    requires room { at + STRING_ROOM + behind ≤ length page.old }
+    requires inside { IsInside bytes.now lex }
+    ensures placed { Places page.old page.new at (string_text (text_of bytes.now lex)) result }
+    ensures room { IfSome result (λ end. end + behind ≤ length page.new) }
+    ensures where_placed { lex.at + lex.len + LANES ≤ length bytes.now → at + behind + 6 * lex.len + 2 + LANES ≤ length page.old → IsSome result }
+{
+    let from = lex.at as usize;
+    let len = lex.len as usize;
+    if bytes.len() - from - len < LANES || page.len() - at - behind < 6 * len + 2 + LANES {
+        return None;
+    }
+    let begin = place_byte(page, at, b'"');
+    let end = place_escaped(page, begin, bytes, from, from + len);
+    Some(place_byte(page, end, b'"'))
+}
+
+/// Places a literal's string, in its quotes, and leaves so much room behind it. None: the file has fewer than 16 bytes
+/// behind the string, or the page may not have room for it, at six bytes for each of its bytes.
 #[inline]
-pub fn push_string_at(out: &mut Vec<u8>, bytes: &[u8], lex: Span) -> Result<(), AllocError>
-    requires { IsInside bytes.now lex }
-    ensures { OnOk result (out.new.items ≡ out.old.items ++ string_text (text_of bytes.now lex)) }
+pub fn place_string(
+    page: &mut [u8],
+    at: usize,
+    bytes: &[u8],
+    lex: Span,
+    behind: usize,
+) -> Option<usize>
+    requires room { at + STRING_ROOM + behind ≤ length page.old }
+    requires inside { IsInside bytes.now lex }
+    ensures placed { Places page.old page.new at (string_text (text_of bytes.now lex)) result }
+    ensures room { IfSome result (λ end. end + behind ≤ length page.new) }
+    ensures where_placed { lex.at + lex.len + LANES ≤ length bytes.now → at + behind + 6 * lex.len + 2 + LANES ≤ length page.old → IsSome result }
 {
     if !is_plain_string(bytes, lex) {
-        return push_string(out, text_at(bytes, lex));
+        return place_long_string(page, at, bytes, lex, behind);
     }
-    out.push(b'"')?;
-    push_short(out, bytes, lex)?;
-    out.push(b'"')?;
-    Ok(())
+    let begin = place_byte(page, at, b'"');
+    let end = place_short(page, begin, bytes, lex);
+    Some(place_byte(page, end, b'"'))
 }
 
 // A short label without escapes.
@@ -175,6 +181,7 @@ fn is_plain_label(bytes: &[u8], label: Span) -> bool
     requires { IsInside bytes.now label }
     ensures short { IsTrue result → (label.len ≤ SHORT) × (label.at + SHORT ≤ length bytes.now) }
     ensures clean { IsTrue result → label_written (text_of bytes.now label) ≡ text_of bytes.now label }
+    ensures where_plain { 0 < label.len → label.len ≤ SHORT → label.at + SHORT ≤ length bytes.now → AreRaw Terminal.BlankNodeLabel bytes.now label.at (label.at + label.len) → IsTrue result }
 {
     label.len > 0
         && is_within(bytes, label, SHORT)
@@ -194,69 +201,58 @@ fn is_plain_short_label(bytes: &[u8], label: Span) -> bool
         && is_raw_short_label(bytes, label.at as usize, label.len as usize)
 }
 
-// The label's bytes are copied behind its `_:`, and both are then one append.
-#[inline(always)]
-fn push_signed_label(out: &mut Vec<u8>, bytes: &[u8], label: Span) -> Result<(), AllocError>
-    requires short { label.len ≤ LANES }
-    requires room { label.at + LANES ≤ length bytes.now }
-    ensures { OnOk result (out.new.items ≡ out.old.items ++ (codes "_:" ++ text_of bytes.now label)) }
-{
-    let v = u8x16::from_slice(&bytes[label.at as usize..]).to_array();
-    let copy = [
-        b'_', b':', v[0], v[1], v[2], v[3], v[4], v[5], v[6], v[7], v[8], v[9], v[10], v[11],
-        v[12], v[13], v[14], v[15],
-    ];
-    push_front(out, &copy, 2 + label.len as usize)
-}
-
-/// Appends a blank node by its label.
+/// Places a blank node by its label.
 #[inline]
-pub fn push_label_at(out: &mut Vec<u8>, bytes: &[u8], label: Span) -> Result<(), AllocError>
-    requires { IsInside bytes.now label }
-    ensures { OnOk result
-        (out.new.items ≡ out.old.items ++ (codes "_:" ++ label_written (text_of bytes.now label))) }
+pub fn place_label(page: &mut [u8], at: usize, bytes: &[u8], label: Span) -> Option<usize>
+    requires room { at + LABEL_ROOM ≤ length page.old }
+    requires inside { IsInside bytes.now label }
+    ensures placed { Places page.old page.new at (codes "_:" ++ label_written (text_of bytes.now label)) result }
+    ensures room { IfSome result (λ end. end ≤ at + LABEL_ROOM) }
+    ensures where_placed { 0 < label.len → label.len ≤ SHORT → label.at + SHORT ≤ length bytes.now → AreRaw Terminal.BlankNodeLabel bytes.now label.at (label.at + label.len) → IsSome result }
 {
     if is_plain_short_label(bytes, label) {
-        return push_signed_label(out, bytes, label);
+        let begin = place_pair(page, at, b'_', b':');
+        let from = label.at as usize;
+        return Some(place_block::<LANES>(page, begin, bytes, from, label.len as usize));
     }
     if !is_plain_label(bytes, label) {
-        return push_label(out, text_at(bytes, label));
+        return None;
     }
-    out.extend_from_slice(b"_:")?;
-    push_short(out, bytes, label)
+    let begin = place_pair(page, at, b'_', b':');
+    Some(place_short(page, begin, bytes, label))
 }
 
-/// Appends a literal's language tag.
+/// Places a literal's language tag.
 #[inline]
-pub fn push_tag_at(out: &mut Vec<u8>, bytes: &[u8], tag: Span) -> Result<(), AllocError>
-    requires { IsInside bytes.now tag }
-    ensures { OnOk result (out.new.items ≡ out.old.items ++ (codes "@" ++ text_of bytes.now tag)) }
+pub fn place_tag(page: &mut [u8], at: usize, bytes: &[u8], tag: Span) -> Option<usize>
+    requires room { at + TAG_ROOM ≤ length page.old }
+    requires inside { IsInside bytes.now tag }
+    ensures placed { Places page.old page.new at (codes "@" ++ text_of bytes.now tag) result }
+    ensures room { IfSome result (λ end. end ≤ at + TAG_ROOM) }
+    ensures where_placed { tag.len ≤ SHORT → tag.at + SHORT ≤ length bytes.now → IsSome result }
 {
     if !is_within(bytes, tag, SHORT) {
-        return push_tag(out, text_at(bytes, tag));
+        return None;
     }
-    out.push(b'@')?;
-    push_short(out, bytes, tag)
+    let begin = place_byte(page, at, b'@');
+    Some(place_short(page, begin, bytes, tag))
 }
 
-/// Appends a literal's datatype. It is clean where an IRI has it as it is.
+/// Places a literal's datatype, which an IRI has as it is.
 #[inline]
-pub fn push_datatype_at(
-    out: &mut Vec<u8>,
-    bytes: &[u8],
-    datatype: Span,
-    is_clean: bool,
-) -> Result<(), AllocError>
+pub fn place_datatype(page: &mut [u8], at: usize, bytes: &[u8], datatype: Span) -> Option<usize>
+    requires room { at + DATATYPE_ROOM ≤ length page.old }
     requires inside { IsInside bytes.now datatype }
-    requires clean { IsTrue is_clean → iri_escaped (text_of bytes.now datatype) ≡ text_of bytes.now datatype }
-    ensures { OnOk result (out.new.items ≡ out.old.items ++ (codes "^^" ++ iri_text (text_of bytes.now datatype))) }
+    requires clean { iri_escaped (text_of bytes.now datatype) ≡ text_of bytes.now datatype }
+    ensures placed { Places page.old page.new at (codes "^^" ++ iri_text (text_of bytes.now datatype)) result }
+    ensures room { IfSome result (λ end. end ≤ at + DATATYPE_ROOM) }
+    ensures where_placed { datatype.len ≤ LONG → datatype.at + LONG ≤ length bytes.now → IsSome result }
 {
-    let is_copied = is_clean && is_within(bytes, datatype, LONG);
-    if !is_copied {
-        return push_datatype(out, text_at(bytes, datatype), is_clean);
+    if !is_within(bytes, datatype, LONG) {
+        return None;
     }
-    out.extend_from_slice(b"^^<")?;
-    push_long(out, bytes, datatype)?;
-    out.push(b'>')?;
-    Ok(())
+    let middle = place_pair(page, at, b'^', b'^');
+    let begin = place_byte(page, middle, b'<');
+    let end = place_long(page, begin, bytes, datatype);
+    Some(place_byte(page, end, b'>'))
 }

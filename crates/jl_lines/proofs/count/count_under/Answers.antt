@@ -17,4 +17,4 @@ returns-in-Err-Malformed c =
     let begun = c.in-Ok-opening.ensures in
     let said = rw c.in-Err-Malformed.field-0-is at c.in-Err-Malformed.ensures.comes in
     let broke = rw (begun.options, begun.exact, begun.none, begun.writing) at said in
-    refused_so (λ item. []) (options_seen c.args.bytes.now c.args.options.now) (all_rows c.args.bytes.now) None None c.file.new.self.buffer.items 0 0 c.in-Err-Malformed.fault broke
+    refused_so (λ item. []) (options_seen c.args.bytes.now c.args.options.now) (all_rows c.args.bytes.now) None None c.file.new.self.page.lines 0 0 c.in-Err-Malformed.fault broke

@@ -18,7 +18,7 @@ loop-w-init g c =
           (ap (λ (i : ℕ). behind_runs c.args.bytes.now c.args.frames.now.bodies c.args.plan.now i) none);
       few = omega (arith, c.requires.few);
       later = omega arith;
-      lawful = c.requires.lawful;
+      kept = c.requires.kept;
       options = refl;
       writing = refl;
     }
@@ -29,7 +29,7 @@ returns-in_err-wave-clause-comes g c =
     let p = err_from_is_err_and c.from_residual.result c.from_residual.ensures.1 in
     rw (p.1, p.2, sym (from_first c.args.bytes.now c.args.frames.now.bodies))
     (goes_breaks (written c.args.self.now.writing) (options_seen c.args.bytes.now c.args.self.now.state.options) (state_seen c.args.bytes.now c.args.self.now.state) (made c.args.self.now) (behind_runs c.args.bytes.now c.args.frames.now.bodies c.args.plan.now 0)
-    (state_seen c.args.bytes.now c.loop-w.self.state) (made c.loop-w.self) (behind_runs c.args.bytes.now c.args.frames.now.bodies c.args.plan.now (min (c.loop-w.w * runs_per_wave) (length c.args.plan.now))) c.wave.new.self.buffer.items
+    (state_seen c.args.bytes.now c.loop-w.self.state) (made c.loop-w.self) (behind_runs c.args.bytes.now c.args.frames.now.bodies c.args.plan.now (min (c.loop-w.w * runs_per_wave) (length c.args.plan.now))) c.wave.new.self.page.lines
     (g.K.Sink.held c.args.out.now) (g.K.Sink.held c.loop-w.out) (g.K.Sink.held c.wave.new.out) (g.K.Sink.faults c.args.out.now) (g.K.Sink.faults c.loop-w.out) (g.K.Sink.faults c.wave.new.out) c.in_err-wave.field-0.0
     c.loop-w.invariant.later c.loop-w.invariant.went broke)
 
@@ -44,7 +44,7 @@ loop-w-preserved g c =
           (g.K.Sink.held c.args.out.now) (g.K.Sink.held c.loop-w.out) (g.K.Sink.held c.wave.new.out) c.loop-w.invariant.went came;
       few = c.in_ok-wave.ensures.few;
       later = omega (arith, later, c.loop-w.invariant.later);
-      lawful = c.in_ok-wave.ensures.lawful;
+      kept = c.in_ok-wave.ensures.kept;
       options = c.in_ok-wave.ensures.options ∙ c.loop-w.invariant.options;
       writing = c.in_ok-wave.ensures.writing ∙ c.loop-w.invariant.writing;
     }
@@ -59,7 +59,7 @@ returns-in-Some-clause-comes g c =
     let tail : c.args.frames.now.tail ≡ Some c.in-Some.fault = sym c.tail.ensures ∙ c.in-Some.is in
     rw (sym (from_first c.args.bytes.now c.args.frames.now.bodies))
     (goes_breaks (written c.args.self.now.writing) o (state_seen c.args.bytes.now c.args.self.now.state) (made c.args.self.now) (behind_runs c.args.bytes.now c.args.frames.now.bodies c.args.plan.now 0)
-    s (made c.loop-w.self) R c.loop-w.self.buffer.items
+    s (made c.loop-w.self) R c.loop-w.self.page.lines
     (g.K.Sink.held c.args.out.now) (g.K.Sink.held c.loop-w.out) (g.K.Sink.held c.loop-w.out) (g.K.Sink.faults c.args.out.now) (g.K.Sink.faults c.loop-w.out) (g.K.Sink.faults c.loop-w.out) _
     c.loop-w.invariant.later c.loop-w.invariant.went
     (breaks_read (written c.args.self.now.writing) o s (made c.loop-w.self) R c.in-Some.fault (g.K.Sink.held c.loop-w.out) _ _ (rest ∙ ap (λ (f : Option Fault). record { items = []; fault = f }) tail)))

@@ -1,6 +1,7 @@
 use Rattle.std.proofs.Common.{◌≡◌, ◌+◌, ◌-◌, ◌≤◌}
 use Rattle.jl_rows.specs.Seen.{options_seen}
-use Rattle.jl_state.specs.Lawful.{state_seen, IsLawful}
+use Rattle.jl_state.specs.Lawful.{state_seen}
+use Rattle.jl_lines.specs.Kept.{Keeps}
 use Rattle.jl_lines.specs.Going.{Goes, made, rest_of}
 use Rattle.jl_lines.specs.Writings.{written}
 use Rattle.jl_lines.proofs.decoding.Decoding.frame.Given as goal
@@ -14,7 +15,7 @@ invariant-by_stretch g l = record {
   went : Goes (written l.fn.self.writing) (options_seen l.bytes l.fn.self.state.options) (state_seen l.bytes l.fn.self.state) (made l.fn.self) (rest_of l.bytes l.frame 0 l.at)
       (state_seen l.bytes l.self.state) (made l.self) (rest_of l.bytes l.frame l.before l.place) (g.K.Sink.held l.fn.out) (g.K.Sink.held l.out);
   later : g.K.Sink.faults l.fn.out ≤ g.K.Sink.faults l.out;
-  lawful : IsLawful l.bytes l.self.state;
+  kept : Keeps l.bytes l.self;
   options : l.self.state.options ≡ l.fn.self.state.options;
   writing : l.self.writing ≡ l.fn.self.writing;
 }

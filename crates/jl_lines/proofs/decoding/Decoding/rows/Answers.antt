@@ -14,7 +14,7 @@ by_row-init c = record {
   few = c.requires.few;
   counted = c.requires.counted;
   went = λ h. goes_same (written c.args.self.now.writing) (options_seen c.args.bytes.now c.args.self.now.state.options) (state_seen c.args.bytes.now c.args.self.now.state) (made c.args.self.now) (rest_of c.args.bytes.now c.args.frame c.args.before c.args.at) (rest_of c.args.bytes.now c.args.frame c.args.before c.args.at) h refl;
-  lawful = c.requires.lawful;
+  kept = c.requires.kept;
   options = refl;
   writing = refl;
 }
@@ -25,7 +25,7 @@ returns-in_err-next-clause-comes c h f =
     let p = err_from_is_err_and c.from_residual.result c.from_residual.ensures.1 in
     rw (p.1, p.2)
     (goes_breaks (written c.args.self.now.writing) (options_seen c.args.bytes.now c.args.self.now.state.options) (state_seen c.args.bytes.now c.args.self.now.state) (made c.args.self.now) (rest_of c.args.bytes.now c.args.frame c.args.before c.args.at)
-    (state_seen c.args.bytes.now c.by_row.self.state) (made c.by_row.self) (rest_of c.args.bytes.now c.args.frame c.by_row.count c.by_row.place) c.next.new.self.buffer.items
+    (state_seen c.args.bytes.now c.by_row.self.state) (made c.by_row.self) (rest_of c.args.bytes.now c.args.frame c.by_row.count c.by_row.place) c.next.new.self.page.lines
     h h h f f f c.in_err-next.field-0.0 (omega arith) (c.by_row.invariant.went h) broke)
 
 pub returns-then-is_long-clause-comes : goal.returns-then-is_long-clause-comes
@@ -52,7 +52,7 @@ by_row-preserved c =
           (state_seen c.args.bytes.now c.by_row.self.state) (made c.by_row.self) (rest_of c.args.bytes.now c.args.frame c.by_row.count c.by_row.place)
           (state_seen c.args.bytes.now c.next.new.self.state) (made c.next.new.self) (rest_of c.args.bytes.now c.args.frame (c.by_row.count + 1) c.in-Some.next)
           h h h (c.by_row.invariant.went h) came);
-      lawful = c.in_ok-next.ensures.lawful;
+      kept = c.in_ok-next.ensures.kept;
       options = c.in_ok-next.ensures.options ∙ c.by_row.invariant.options;
       writing = c.in_ok-next.ensures.writing ∙ c.by_row.invariant.writing;
     }

@@ -2,7 +2,8 @@ use Rattle.std.proofs.Common.{◌≡◌, ◌+◌, ◌-◌, ◌≤◌, Option}
 use Rattle.jl_base.specs.Sinks.{Held}
 use Rattle.jl_lines.specs.Writings.{written}
 use Rattle.jl_rows.specs.Seen.{options_seen}
-use Rattle.jl_state.specs.Lawful.{state_seen, IsLawful}
+use Rattle.jl_state.specs.Lawful.{state_seen}
+use Rattle.jl_lines.specs.Kept.{Keeps}
 use Rattle.jl_lines.specs.Going.{Goes, made, rest_of}
 use Rattle.jl_lines.proofs.decoding.Decoding.rows.Given as goal
 
@@ -15,7 +16,7 @@ invariant-by_row l = record {
   few : l.self.counts.statements + l.self.counts.namespaces ≤ l.place;
   went : (h : Option Held) → Goes (written l.fn.self.writing) (options_seen l.bytes l.fn.self.state.options) (state_seen l.bytes l.fn.self.state) (made l.fn.self) (rest_of l.bytes l.frame l.before l.at)
       (state_seen l.bytes l.self.state) (made l.self) (rest_of l.bytes l.frame l.count l.place) h h;
-  lawful : IsLawful l.bytes l.self.state;
+  kept : Keeps l.bytes l.self;
   options : l.self.state.options ≡ l.fn.self.state.options;
   writing : l.self.writing ≡ l.fn.self.writing;
 }

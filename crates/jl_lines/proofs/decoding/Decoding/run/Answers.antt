@@ -19,7 +19,7 @@ loop-i-init g c = record {
   went = goes_same (written c.args.self.now.writing) (options_seen c.args.bytes.now c.args.self.now.state.options) (state_seen c.args.bytes.now c.args.self.now.state) (made c.args.self.now) _ _ _ refl;
   few = c.requires.few;
   later = omega arith;
-  lawful = c.requires.lawful;
+  kept = c.requires.kept;
   options = refl;
   writing = refl;
 }
@@ -45,7 +45,7 @@ returns-in_err-frame-clause-comes g c =
     let p = err_from_is_err_and c.from_residual.result c.from_residual.ensures.1 in
     rw (p.1, p.2)
     (goes_breaks (written c.args.self.now.writing) (options_seen c.args.bytes.now c.args.self.now.state.options) (state_seen c.args.bytes.now c.args.self.now.state) (made c.args.self.now) (behind_frames c.args.bytes.now c.args.frames.now.bodies (c.args.run.first_frame - 1))
-    (state_seen c.args.bytes.now c.loop-i.self.state) (made c.loop-i.self) (behind_frames c.args.bytes.now c.args.frames.now.bodies c.loop-i.i) c.frame.new.self.buffer.items
+    (state_seen c.args.bytes.now c.loop-i.self.state) (made c.loop-i.self) (behind_frames c.args.bytes.now c.args.frames.now.bodies c.loop-i.i) c.frame.new.self.page.lines
     (g.K.Sink.held c.args.out.now) (g.K.Sink.held c.loop-i.out) (g.K.Sink.held c.frame.new.out) (g.K.Sink.faults c.args.out.now) (g.K.Sink.faults c.loop-i.out) (g.K.Sink.faults c.frame.new.out) c.in_err-frame.field-0.0
     c.loop-i.invariant.later c.loop-i.invariant.went broke)
 
@@ -63,7 +63,7 @@ loop-i-preserved g c =
           (g.K.Sink.held c.args.out.now) (g.K.Sink.held c.loop-i.out) (g.K.Sink.held c.frame.new.out) c.loop-i.invariant.went came;
       few = omega (arith, is.next, c.in_ok-frame.ensures.few);
       later = omega (arith, later, c.loop-i.invariant.later);
-      lawful = c.in_ok-frame.ensures.lawful;
+      kept = c.in_ok-frame.ensures.kept;
       options = c.in_ok-frame.ensures.options ∙ c.loop-i.invariant.options;
       writing = c.in_ok-frame.ensures.writing ∙ c.loop-i.invariant.writing;
     }

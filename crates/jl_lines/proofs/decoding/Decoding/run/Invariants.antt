@@ -1,7 +1,8 @@
 use Rattle.std.proofs.Common.{◌≡◌, ◌+◌, ◌≤◌}
 use Rattle.jl_frames.specs.Index.{behind}
 use Rattle.jl_rows.specs.Seen.{options_seen}
-use Rattle.jl_state.specs.Lawful.{state_seen, IsLawful}
+use Rattle.jl_state.specs.Lawful.{state_seen}
+use Rattle.jl_lines.specs.Kept.{Keeps}
 use Rattle.jl_lines.specs.Writings.{written}
 use Rattle.jl_lines.specs.Going.{Goes, behind_frames, made}
 use Rattle.jl_lines.proofs.decoding.Decoding.run.Given as goal
@@ -13,7 +14,7 @@ invariant-loop-i g l = record {
       (state_seen l.bytes l.self.state) (made l.self) (behind_frames l.bytes l.frames.bodies l.i) (g.K.Sink.held l.fn.out) (g.K.Sink.held l.out);
   few : l.self.counts.statements + l.self.counts.namespaces ≤ behind l.frames.bodies l.i;
   later : g.K.Sink.faults l.fn.out ≤ g.K.Sink.faults l.out;
-  lawful : IsLawful l.bytes l.self.state;
+  kept : Keeps l.bytes l.self;
   options : l.self.state.options ≡ l.fn.self.state.options;
   writing : l.self.writing ≡ l.fn.self.writing;
 }

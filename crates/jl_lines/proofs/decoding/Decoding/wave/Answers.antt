@@ -16,7 +16,7 @@ loop-i-init g c = record {
       (behind_runs c.args.bytes.now c.args.frames.now.bodies c.args.plan.now c.wave-lo.result.0) (behind_runs c.args.bytes.now c.args.frames.now.bodies c.args.plan.now c.wave-lo.result.0) _ refl;
   few = rw c.wave-lo.ensures c.requires.few;
   later = omega arith;
-  lawful = c.requires.lawful;
+  kept = c.requires.kept;
   options = refl;
   writing = refl;
 }
@@ -43,7 +43,7 @@ returns-in_err-run-clause-comes g c =
     let p = err_from_is_err_and c.from_residual.result c.from_residual.ensures.1 in
     rw (p.1, p.2, sym (ap (λ p. p.0) c.wave-lo.ensures))
     (goes_breaks (written c.args.self.now.writing) (options_seen c.args.bytes.now c.args.self.now.state.options) (state_seen c.args.bytes.now c.args.self.now.state) (made c.args.self.now) (behind_runs c.args.bytes.now c.args.frames.now.bodies c.args.plan.now c.wave-lo.result.0)
-    (state_seen c.args.bytes.now c.loop-i.self.state) (made c.loop-i.self) (behind_runs c.args.bytes.now c.args.frames.now.bodies c.args.plan.now c.loop-i.i) c.run-in-loop-i.new.self.buffer.items
+    (state_seen c.args.bytes.now c.loop-i.self.state) (made c.loop-i.self) (behind_runs c.args.bytes.now c.args.frames.now.bodies c.args.plan.now c.loop-i.i) c.run-in-loop-i.new.self.page.lines
     (g.K.Sink.held c.args.out.now) (g.K.Sink.held c.loop-i.out) (g.K.Sink.held c.run-in-loop-i.new.out) (g.K.Sink.faults c.args.out.now) (g.K.Sink.faults c.loop-i.out) (g.K.Sink.faults c.run-in-loop-i.new.out) c.in_err-run.field-0.0
     c.loop-i.invariant.later c.loop-i.invariant.went broke)
 
@@ -60,7 +60,7 @@ loop-i-preserved g c =
           (g.K.Sink.held c.args.out.now) (g.K.Sink.held c.loop-i.out) (g.K.Sink.held c.run-in-loop-i.new.out) c.loop-i.invariant.went came;
       few = few;
       later = omega (arith, later, c.loop-i.invariant.later);
-      lawful = c.in_ok-run.ensures.lawful;
+      kept = c.in_ok-run.ensures.kept;
       options = c.in_ok-run.ensures.options ∙ c.loop-i.invariant.options;
       writing = c.in_ok-run.ensures.writing ∙ c.loop-i.invariant.writing;
     }

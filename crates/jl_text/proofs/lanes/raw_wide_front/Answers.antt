@@ -1,0 +1,25 @@
+use Rattle.std.proofs.Common.{ℕ, refl, arith, rules}
+use Rattle.std.proofs.lemmas.Simd.{zip2_splat, zip2_of_maps, length-chunk}
+use lib.Lanes.{chunk}
+use Rattle.jl_text.specs.declared.escape.Terminal.TheVariants.{StringLiteral}
+use Rattle.jl_text.specs.Line.{string_byte}
+use Rattle.jl_text.proofs.LaneLemmas.{raw_to_first, escaped_at_first}
+use Rattle.jl_text.proofs.lanes.raw_wide_front.Goals as goal
+
+pub returns-clause-raw : goal.returns-clause-raw
+unfolding string_byte
+returns-clause-raw c =
+    let v = chunk c.args.at 64 c.args.text.now in
+    let long = length-chunk c.args.at 64 c.args.text.now c.requires in
+    raw_to_first StringLiteral c.args.text.now c.args.at 64 _ _ c.requires (omega arith) c.type_inv.text
+    (zip2_of_maps _ _ _ v (zip2_of_maps _ _ _ v (zip2_splat {Y = ℕ} _ v 64 32 long) (zip2_splat {Y = ℕ} _ v 64 127 long))
+    (zip2_of_maps _ _ _ v (zip2_splat {Y = ℕ} _ v 64 92 long) (zip2_splat {Y = ℕ} _ v 64 34 long))) refl _ refl (search rules)
+
+pub returns-clause-stops : goal.returns-clause-stops
+unfolding string_byte
+returns-clause-stops c = λ short.
+    let v = chunk c.args.at 64 c.args.text.now in
+    let long = length-chunk c.args.at 64 c.args.text.now c.requires in
+    escaped_at_first StringLiteral c.args.text.now c.args.at 64 _ _ c.requires (omega arith) c.type_inv.text
+    (zip2_of_maps _ _ _ v (zip2_of_maps _ _ _ v (zip2_splat {Y = ℕ} _ v 64 32 long) (zip2_splat {Y = ℕ} _ v 64 127 long))
+    (zip2_of_maps _ _ _ v (zip2_splat {Y = ℕ} _ v 64 92 long) (zip2_splat {Y = ℕ} _ v 64 34 long))) refl _ refl short

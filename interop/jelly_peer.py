@@ -98,4 +98,8 @@ def run(program, commands, tally, seed, count):
         check(program, commands, tally, "file %d of seed %s" % (number, seed), frames)
         if missing:
             missing.difference_update(*map(fields_of, frames))
+    # Texts that the page of lines has no room for, and lines that go over its end.
+    for number in range(count // 200):
+        frames = making.make(random.Random("%s, long file %d" % (seed, number)), 1 + number % 3, rows=400, longest=30000)
+        check(program, commands, tally, "long file %d of seed %s" % (number, seed), frames)
     tally.check("no file has " + ", ".join(sorted(missing)) if missing else "", "every field stands in some file")

@@ -37,9 +37,11 @@ def file_bytes(frames):
 class Maker:
     """A file under way: its frames, and what its next row may refer to."""
 
-    def __init__(self, random, physical, plain):
+    def __init__(self, random, physical, plain, longest):
         self.random = random
         self.physical = physical
+        # How many letters a text has now and then.
+        self.longest = longest
         # Whether only what RDF 1.1 has, and what rapper and serdi take, may stand in it.
         self.plain = plain
         self.frames = [jelly.RdfStreamFrame()]
@@ -63,7 +65,7 @@ class Maker:
     def text(self, letters):
         length = self.random.choice((0, 1, 2, 3, 5, 8, 13, 21, 40, 70))
         if self.chance(0.01):
-            length = 5000
+            length = self.longest
         return "".join(self.random.choice(letters if self.chance(0.4) else LETTERS) for _ in range(length))
 
     def tag(self):
@@ -200,9 +202,9 @@ class Maker:
             self.statement()
 
 
-def make(random, physical, plain=False, rows=60):
+def make(random, physical, plain=False, rows=60, longest=5000):
     """The frames of a file of about so many rows."""
-    maker = Maker(random, physical, plain)
+    maker = Maker(random, physical, plain, longest)
     for _ in range(random.randint(0, 2 * rows)):
         maker.step()
     return maker.frames

@@ -1,7 +1,7 @@
 -- The names of the kinds of faults.
 use Rattle.std.specs.Prelude.{ℕ, List, codes}
 use Rattle.jl_base.specs.declared.kind.Kind.{Kind}
-use Rattle.jl_base.specs.declared.kind.Kind.TheVariants.{Truncated, BadVarint, BadTag, WrongWire, Twice, BadUtf8, TooDeep, EmptyRow, NoOptions, BadOptions, TableTooLarge, OptionsDiffer, WrongRow, BadEntry, NoEntry, NoTerm, NoGraph, GraphOpen, BadLangtag}
+use Rattle.jl_base.specs.declared.kind.Kind.TheVariants.{Truncated, BadVarint, BadTag, WrongWire, Twice, BadUtf8, TooDeep, EmptyRow, NoOptions, BadOptions, TableTooLarge, OptionsDiffer, WrongRow, BadEntry, NoEntry, NoTerm, NoGraph, GraphOpen, BadLangtag, FrameTooLong, SmallNames, BadLogical, NoStar, NotPlain, EarlyNamespace}
 
 -- what a fault's line calls it
 abbrev pub name_of : Kind → List ℕ
@@ -24,3 +24,9 @@ name_of NoTerm = codes "NoTerm"
 name_of NoGraph = codes "NoGraph"
 name_of GraphOpen = codes "GraphOpen"
 name_of BadLangtag = codes "BadLangtag"
+name_of FrameTooLong = codes "FrameTooLong"
+name_of SmallNames = codes "SmallNames"
+name_of BadLogical = codes "BadLogical"
+name_of NoStar = codes "NoStar"
+name_of NotPlain = codes "NotPlain"
+name_of EarlyNamespace = codes "EarlyNamespace"

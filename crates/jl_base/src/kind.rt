@@ -43,6 +43,18 @@ pub enum Kind {
     GraphOpen = 18,
     /// A language tag that N-Quads doesn't have.
     BadLangtag = 19,
+    /// A frame of more than 2^27 bytes.
+    FrameTooLong = 20,
+    /// Under the strict profile: a name table of fewer than 8 entries.
+    SmallNames = 21,
+    /// Under the strict profile: a logical type that doesn't go with the physical type.
+    BadLogical = 22,
+    /// Under the strict profile: a triple term in a file that declares none.
+    NoStar = 23,
+    /// Under the strict profile: a term at a position where RDF has none of its sort, in a file that declares no such.
+    NotPlain = 24,
+    /// Under the strict profile: a namespace's declaration in a file of the first version.
+    EarlyNamespace = 25,
 }
 
 /// The kind's name, as it stands at the end of a fault's line.
@@ -69,5 +81,11 @@ pub fn kind_name(kind: Kind) -> &'static str
         Kind::NoGraph => "NoGraph",
         Kind::GraphOpen => "GraphOpen",
         Kind::BadLangtag => "BadLangtag",
+        Kind::FrameTooLong => "FrameTooLong",
+        Kind::SmallNames => "SmallNames",
+        Kind::BadLogical => "BadLogical",
+        Kind::NoStar => "NoStar",
+        Kind::NotPlain => "NotPlain",
+        Kind::EarlyNamespace => "EarlyNamespace",
     }
 }

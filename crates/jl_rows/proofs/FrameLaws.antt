@@ -4,12 +4,12 @@ use Rattle.std.proofs.lemmas.Bool.{ltb-false, le-ltb, lt-ltb}
 use Rattle.std.proofs.lemmas.List.{length-take-le}
 use Rattle.jl_base.specs.Results.{with_front}
 use Rattle.jl_base.specs.declared.kind.Kind.{Kind}
-use Rattle.jl_base.specs.declared.kind.Kind.TheVariants.{Truncated}
+use Rattle.jl_base.specs.declared.kind.Kind.TheVariants.{Truncated, FrameTooLong}
 use Rattle.jl_wire.specs.Varint.{varint}
 use Rattle.jl_wire.proofs.Bound.{bound, let_through}
 use Rattle.jl_wire.proofs.Ranges.{length-range, drop-range, take-range}
 use Rattle.jl_wire.proofs.FieldLaws.{varint_size}
-use Rattle.jl_rows.specs.Files.{body, frames_after, frames}
+use Rattle.jl_rows.specs.Files.{body, body_behind, most_body, frames_after, frames}
 
 -- How long a frame is: it takes at least its length, no more than the bytes, and its body is shorter.
 pub record IsFrameSized (bytes : List ℕ) (f : List ℕ × ℕ) : Type 0 where
@@ -19,9 +19,10 @@ pub record IsFrameSized (bytes : List ℕ) (f : List ℕ × ℕ) : Type 0 where
 
 pub frame_size : (bytes : List ℕ) (f : List ℕ × ℕ) → body bytes ≡ Ok f → IsFrameSized bytes f
 frame_size bytes f e =
-    let len = bound (varint bytes) (λ (len : ℕ × ℕ). if nat_lt (length bytes - len.1) len.0 then Err Truncated else Ok (take len.0 (drop len.1 bytes), len.1 + len.0)) f e in
+    let len = bound (varint bytes) (body_behind bytes) f e in
     let sizes = varint_size bytes len.value len.was in
-    let through = let_through (nat_lt (length bytes - len.value.1) len.value.0) Truncated (Ok (take len.value.0 (drop len.value.1 bytes), len.value.1 + len.value.0)) f len.next in
+    let short = let_through (nat_lt most_body len.value.0) FrameTooLong (if nat_lt (length bytes - len.value.1) len.value.0 then Err Truncated else Ok (take len.value.0 (drop len.value.1 bytes), len.value.1 + len.value.0)) f len.next in
+    let through = let_through (nat_lt (length bytes - len.value.1) len.value.0) Truncated (Ok (take len.value.0 (drop len.value.1 bytes), len.value.1 + len.value.0)) f short.1 in
     let enough = ltb-false (length bytes - len.value.1) len.value.0 through.0 in
     let same : ◌≡◌ {A = List ℕ × ℕ} (take len.value.0 (drop len.value.1 bytes), len.value.1 + len.value.0) f = let h = through.1 in cc in
     let text : take len.value.0 (drop len.value.1 bytes) ≡ f.0 = ap (λ (p : List ℕ × ℕ). p.0) same in
@@ -68,31 +69,43 @@ module _ (bytes : List ℕ) (at end : ℕ) where
       let empty : slice_range bytes at end ≡ [] = rw none refl in
       rw empty frames_end
 
-  frames_at_fault : (k : Kind) → at < end → end ≤ length bytes → body (slice_range bytes at end) ≡ Err k → frames (slice_range bytes at end) ≡ record { items = []; fault = Some k }
+  pub frames_at_fault : (k : Kind) → at < end → end ≤ length bytes → body (slice_range bytes at end) ≡ Err k → frames (slice_range bytes at end) ≡ record { items = []; fault = Some k }
   frames_at_fault k lt inside e =
       let some : 0 < length (slice_range bytes at end) = omega (arith, length-range bytes at end (omega arith) inside) in
       frames_fault (slice_range bytes at end) k some e
 
   -- no length
-  pub no_length : (k : Kind) → at < end → end ≤ length bytes → varint (slice_range bytes at end) ≡ Err k → frames (slice_range bytes at end) ≡ record { items = []; fault = Some k }
-  no_length k lt inside said = frames_at_fault k lt inside (rw said refl)
+  pub no_length : (k : Kind) → varint (slice_range bytes at end) ≡ Err k → body (slice_range bytes at end) ≡ Err k
+  no_length k said = rw said refl
+
+  -- a length that no frame may have
+  pub too_long : (start len : ℕ) → most_body < len → varint (slice_range bytes at end) ≡ Ok (len, start - at) → body (slice_range bytes at end) ≡ Err FrameTooLong
+  too_long start len long said =
+      let more : nat_lt most_body len ≡ true = lt-ltb most_body len long in
+      rw (said, more) refl
 
   -- a length past the end
-  pub cut_off : (start len : ℕ) → at < start → start ≤ end → end ≤ length bytes → end - start < len → varint (slice_range bytes at end) ≡ Ok (len, start - at) → frames (slice_range bytes at end) ≡ record { items = []; fault = Some Truncated }
-  cut_off start len lt le inside past said =
+  pub cut_off : (start len : ℕ) → len ≤ most_body → at < start → start ≤ end → end ≤ length bytes → end - start < len → varint (slice_range bytes at end) ≡ Ok (len, start - at) → body (slice_range bytes at end) ≡ Err Truncated
+  cut_off start len most lt le inside past said =
+      let short : nat_lt most_body len ≡ false = le-ltb most_body len most in
       let whole : length (slice_range bytes at end) ≡ end - at = length-range bytes at end (omega arith) inside in
       let few : nat_lt (length (slice_range bytes at end) - (start - at)) len ≡ true = lt-ltb (length (slice_range bytes at end) - (start - at)) len (omega arith) in
-      frames_at_fault Truncated (omega arith) inside (rw (said, few) refl)
+      rw (said, short, few) refl
 
   -- a whole frame
-  pub whole_frame : (start len : ℕ) → at < start → start ≤ end → end ≤ length bytes → len ≤ end - start → varint (slice_range bytes at end) ≡ Ok (len, start - at)
-      → frames (slice_range bytes at end) ≡ with_front (slice_range bytes start (start + len)) (frames (slice_range bytes (start + len) end))
-  whole_frame start len lt le inside fits said =
+  pub whole_body : (start len : ℕ) → len ≤ most_body → at < start → start ≤ end → end ≤ length bytes → len ≤ end - start → varint (slice_range bytes at end) ≡ Ok (len, start - at)
+      → body (slice_range bytes at end) ≡ Ok (slice_range bytes start (start + len), start + len - at)
+  whole_body start len most lt le inside fits said =
+      let short : nat_lt most_body len ≡ false = le-ltb most_body len most in
       let before : at ≤ start = omega arith in
       let whole : length (slice_range bytes at end) ≡ end - at = length-range bytes at end (omega arith) inside in
       let enough : nat_lt (length (slice_range bytes at end) - (start - at)) len ≡ false = le-ltb (length (slice_range bytes at end) - (start - at)) len (omega arith) in
       let text : take len (drop (start - at) (slice_range bytes at end)) ≡ slice_range bytes start (start + len) =
       ap (take len) (drop-range bytes at start end before le) ∙ take-range bytes start end len (omega arith) in
       let size : (start - at) + len ≡ start + len - at = omega arith in
-      let read : body (slice_range bytes at end) ≡ Ok (slice_range bytes start (start + len), start + len - at) = rw (said, enough, text, size) refl in
-      rw (← drop-range bytes at (start + len) end (omega arith) (omega arith)) (frames_next (slice_range bytes at end) (slice_range bytes start (start + len), start + len - at) read)
+      rw (said, short, enough, text, size) refl
+
+  pub whole_frame : (start stop : ℕ) → at < start → start ≤ stop → stop ≤ end → body (slice_range bytes at end) ≡ Ok (slice_range bytes start stop, stop - at)
+      → frames (slice_range bytes at end) ≡ with_front (slice_range bytes start stop) (frames (slice_range bytes stop end))
+  whole_frame start stop lt le inside read =
+      rw (← drop-range bytes at stop end (omega arith) inside) (frames_next (slice_range bytes at end) (slice_range bytes start stop, stop - at) read)

@@ -5,11 +5,11 @@ use Rattle.std.specs.Str.{bytes_eq}
 use Rattle.jl_base.specs.Results.{◌>>=◌, refuse_if, some_or, Reading, followed}
 use Rattle.jl_base.specs.Terms.{Value, Item}
 use Rattle.jl_base.specs.declared.kind.Kind.{Kind}
-use Rattle.jl_base.specs.declared.kind.Kind.TheVariants.{NoOptions, BadOptions, TableTooLarge, OptionsDiffer, WrongRow, BadEntry, NoTerm, NoGraph, GraphOpen}
+use Rattle.jl_base.specs.declared.kind.Kind.TheVariants.{NoOptions, BadOptions, TableTooLarge, OptionsDiffer, WrongRow, BadEntry, NoTerm, NoGraph, GraphOpen, SmallNames, BadLogical, NoStar, NotPlain, EarlyNamespace}
 use Rattle.jl_base.specs.declared.place.Place.{Place}
 use Rattle.jl_base.specs.declared.place.Fault.{Fault}
 use Rattle.jl_rows.specs.declared.row.Table.{Table}
-use Rattle.jl_rows.specs.Written.{StreamOptions, Row}
+use Rattle.jl_rows.specs.Written.{StreamOptions, Term, Row}
 use Rattle.jl_rows.specs.Files.{Placed, all_rows}
 use Rattle.jl_rows.specs.History.{History, entry_id, seen_in}
 use Rattle.jl_rows.specs.Values.{Position, value, value_in, iri_text, slots_of, last_term, open_graph, set_by, is_unset}
@@ -51,6 +51,17 @@ first_row_checked (Row.Options o) = do
   Ok o
 first_row_checked _ = Err NoOptions
 
+-- the logical types that go with a physical type
+abbrev pub goes_with : StreamOptions → Bool
+goes_with o = (o.logical == 0) || (is_triples o && ((o.logical == 1) || (o.logical == 3) || (o.logical == 13))) || ((is_quads o || is_graphs o) && ((o.logical == 2) || (o.logical == 4) || (o.logical == 14) || (o.logical == 114)))
+
+-- the options of a first row, held to what they declare
+abbrev pub strictly : StreamOptions → Result StreamOptions Kind
+strictly o = do
+  _ ← refuse_if (nat_lt o.names 8) SmallNames
+  _ ← refuse_if (not (goes_with o)) BadLogical
+  Ok (record o { strict = true })
+
 -- a row that the physical type doesn't have
 abbrev pub is_wrong_row : StreamOptions → Row → Bool
 is_wrong_row o (Row.Triple s p ob) = is_quads o
@@ -81,6 +92,7 @@ said_after o (Row.GraphStart g) H = do
   _ ← value (slots_of H) (seen_in H) g
   Ok []
 said_after o (Row.Namespace name i) H = do
+  _ ← refuse_if (o.strict && (o.version == 1)) EarlyNamespace
   ids ← some_or i NoTerm
   iri ← iri_text (slots_of H) (ids ∷ seen_in H)
   Ok (Item.Namespace name iri ∷ [])
@@ -97,9 +109,40 @@ said_after o (Row.Quad s p ob g) H = do
   d ← term_at Position.Graph (Row.Quad s p ob g) H
   Ok (Item.Quad a b c d ∷ [])
 
+abbrev pub is_predicate : Position → Bool
+is_predicate Position.Predicate = true
+is_predicate _ = false
+
+abbrev pub is_object : Position → Bool
+is_object Position.Object = true
+is_object _ = false
+
+-- a term, or in its place the kind of what it may not be at this position
+abbrev pub refused_if : Bool → Kind → Term → Term
+refused_if true kind t = Term.Refused kind
+refused_if false kind t = t
+
+abbrev pub guarded : StreamOptions → Position → Term → Term
+guarded o x (Term.Bnode label) = refused_if (not o.generalized && is_predicate x) NotPlain (Term.Bnode label)
+guarded o x (Term.Literal lex e) = refused_if (not o.generalized && not (is_object x)) NotPlain (Term.Literal lex e)
+guarded o x (Term.Nested a b c) =
+    refused_if (not o.star) NoStar (refused_if (not o.generalized && is_predicate x) NotPlain (Term.Nested (guarded o Position.Subject a) (guarded o Position.Predicate b) (guarded o Position.Object c)))
+guarded o x Term.Default = refused_if (not o.generalized && is_predicate x) NotPlain Term.Default
+guarded o x t = t
+
+-- a row with each term at its position
+abbrev pub row_guarded : StreamOptions → Row → Row
+row_guarded o (Row.Triple s p ob) = Row.Triple (guarded o Position.Subject s) (guarded o Position.Predicate p) (guarded o Position.Object ob)
+row_guarded o (Row.Quad s p ob g) = Row.Quad (guarded o Position.Subject s) (guarded o Position.Predicate p) (guarded o Position.Object ob) (guarded o Position.Graph g)
+row_guarded o (Row.GraphStart g) = Row.GraphStart (guarded o Position.Graph g)
+row_guarded o r = r
+
+abbrev pub read_under : StreamOptions → Row → Row
+read_under o r = if o.strict then row_guarded o r else r
+
 -- what a row states after a history, or its first fault
 abbrev pub meaning : StreamOptions → Row → History → Result (List Item) Kind
-meaning o r H = refuse_if (is_wrong_row o r) WrongRow >>= λ _. said_after o r H
+meaning o r H = refuse_if (is_wrong_row o r) WrongRow >>= λ _. said_after o (read_under o r) H
 
 -- an answer in front of a reading; a refusal is the fault at that place
 abbrev pub led_at : {A : Type 0} → Place → Result (List A) Kind → Reading A Fault → Reading A Fault

@@ -3,7 +3,7 @@ use Rattle.std.specs.Prelude.{ℕ, zero, suc, ◌+◌, ◌-◌, ◌^◌, ◌<◌
 use Rattle.std.specs.List.{AllByRecursion}
 use Rattle.jl_base.specs.Results.{◌>>=◌, Reading, led, with_front, joined}
 use Rattle.jl_base.specs.declared.kind.Kind.{Kind}
-use Rattle.jl_base.specs.declared.kind.Kind.TheVariants.{Truncated, WrongWire}
+use Rattle.jl_base.specs.declared.kind.Kind.TheVariants.{Truncated, WrongWire, FrameTooLong}
 use Rattle.jl_base.specs.declared.place.Place.{Place}
 use Rattle.jl_base.specs.declared.place.Fault.{Fault}
 use Rattle.jl_wire.specs.Varint.{varint}
@@ -35,9 +35,20 @@ rows_among (f ∷ fs) fault = led (said_in_frame f.number f.content) (λ r. in_f
 unfoldable pub rows : List ℕ → Reading Row Kind
 rows body = rows_among (fields body).items (fields body).fault
 
+-- how many bytes a frame's body may have
+abbrev pub most_body : ℕ
+most_body = 2 ^ 27
+
+-- the body behind a length, and how many bytes both take
+abbrev pub body_behind : List ℕ → ℕ × ℕ → Result (List ℕ × ℕ) Kind
+body_behind bytes len =
+    if nat_lt most_body len.0 then Err FrameTooLong
+    else if nat_lt (length bytes - len.1) len.0 then Err Truncated
+    else Ok (take len.0 (drop len.1 bytes), len.1 + len.0)
+
 -- the bodies of a file's frames, each after its length; the rest behind them is a fault where it is no whole frame
 abbrev pub body : List ℕ → Result (List ℕ × ℕ) Kind
-body bytes = varint bytes >>= λ len. if nat_lt (length bytes - len.1) len.0 then Err Truncated else Ok (take len.0 (drop len.1 bytes), len.1 + len.0)
+body bytes = varint bytes >>= λ len. body_behind bytes len
 
 unfoldable pub frames_after : ℕ → List ℕ → Reading (List ℕ) Kind
 frames_after skip [] = record { items = []; fault = None }
@@ -89,3 +100,8 @@ rows_on frame R = rows_from frame R.items R.fault
 -- all rows of a file
 abbrev pub all_rows : List ℕ → Reading Placed Fault
 all_rows file = rows_from 1 (frames file).items (frames file).fault
+
+-- the rows of frames with these bodies, the first of this number, and then what follows
+abbrev pub rows_then : ℕ → List (List ℕ) → Reading Placed Fault → Reading Placed Fault
+rows_then frame [] B = B
+rows_then frame (b ∷ bs) B = joined (frame_rows frame b) (rows_then (frame + 1) bs B)

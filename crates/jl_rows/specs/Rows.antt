@@ -1,5 +1,5 @@
 -- Rows (Jelly RDF serialization, "RdfStreamRow"): one field of the ones below says what a row is.
-use Rattle.std.specs.Prelude.{ℕ, List, [], ◌∷◌, Option, Some, None, is_some, Result, Ok, Err}
+use Rattle.std.specs.Prelude.{false, ℕ, List, [], ◌∷◌, Option, Some, None, is_some, Result, Ok, Err}
 use Rattle.jl_base.specs.Results.{◌>>=◌, refuse_if, some_or}
 use Rattle.jl_base.specs.declared.kind.Kind.{Kind}
 use Rattle.jl_base.specs.declared.kind.Kind.TheVariants.{WrongWire, Twice, EmptyRow}
@@ -22,6 +22,7 @@ options bytes = message Message.Options bytes >>= λ ps. Ok (record {
   datatypes = number_32 (part ps 6);
   logical = number_32 (part ps 7);
   version = number_32 (part ps 8);
+  strict = false;
 })
 
 unfoldable pub triple : List ℕ → Result Row Kind

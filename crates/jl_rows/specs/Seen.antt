@@ -1,5 +1,5 @@
 -- What the code's rows and parts stand for: their texts in place of where these lie.
-use Rattle.std.specs.Prelude.{◌≡◌, ℕ, ◌<◌, ◌≤◌, List, [], map, length, slice_index_or, slice_range, Option, Some, None, is_some, Result, Ok, Err, false}
+use Rattle.std.specs.Prelude.{◌≡◌, ℕ, ◌-◌, ◌<◌, ◌≤◌, List, [], map, length, slice_index_or, slice_range, Option, Some, None, is_some, Result, Ok, Err, false}
 use Rattle.std.specs.Option.{option_map}
 use Rattle.jl_base.specs.Spans.{text_of, IsInside}
 use Rattle.jl_base.specs.declared.place.Span.{Span}
@@ -81,6 +81,7 @@ options_seen bytes o = record {
   datatypes = o.datatypes;
   logical = o.logical;
   version = o.version;
+  strict = o.strict;
 }
 
 -- a physical type's number
@@ -210,6 +211,12 @@ abbrev pub IsNextFrame : List ℕ → ℕ → ℕ → Result (Option (ℕ × ℕ
 IsNextFrame bytes at end (Ok None) = at ≡ end
 IsNextFrame bytes at end (Ok (Some f)) = files.frames (slice_range bytes at end) ≡ with_front (slice_range bytes f.0 f.1) (files.frames (slice_range bytes f.1 end))
 IsNextFrame bytes at end (Err k) = files.frames (slice_range bytes at end) ≡ record { items = []; fault = Some k }
+
+-- the same of the one frame that stands there
+abbrev pub IsNextBody : List ℕ → ℕ → ℕ → Result (Option (ℕ × ℕ)) Kind → Type 0
+IsNextBody bytes at end (Ok None) = Unit {0}
+IsNextBody bytes at end (Ok (Some f)) = files.body (slice_range bytes at end) ≡ Ok (slice_range bytes f.0 f.1, f.1 - at)
+IsNextBody bytes at end (Err k) = files.body (slice_range bytes at end) ≡ Err k
 
 -- where a frame's body begins and ends, whose length stands at a place of the file
 abbrev pub IsFrameWithin : ℕ → ℕ → ℕ × ℕ → Type 0

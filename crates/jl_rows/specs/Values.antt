@@ -63,6 +63,7 @@ value slots seen (Term.Nested s p o) = do
   c ← value slots (seen_after p (seen_after s seen)) o
   Ok (Value.Nested a b c)
 value slots seen Term.Default = Ok Value.Default
+value slots seen (Term.Refused k) = Err k
 
 abbrev pub slots_of : History → Slots
 slots_of H t id = slot t id H

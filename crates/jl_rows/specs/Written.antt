@@ -1,5 +1,6 @@
 -- Terms, options and rows as a file writes them (Jelly RDF serialization, "RdfStreamRow" and the messages in it): ids in
 -- place of texts that lookup tables hold. A text is its bytes.
+use Rattle.jl_base.specs.declared.kind.Kind.{Kind}
 use Rattle.jl_rows.specs.declared.row.Table.{Table}
 use Rattle.std.specs.Prelude.{ℕ, Bool, List, Option}
 
@@ -22,6 +23,8 @@ pub data Term : Type 0 where
   Literal : List ℕ → Ending → Term
   Nested : Term → Term → Term → Term
   Default : Term
+  -- one that may not stand where it does, which no reader answers
+  Refused : Kind → Term
 
 pub record StreamOptions : Type 0 where
   pub stream_name : List ℕ
@@ -33,6 +36,7 @@ pub record StreamOptions : Type 0 where
   pub datatypes : ℕ
   pub logical : ℕ
   pub version : ℕ
+  pub strict : Bool
 
 pub data Row : Type 0 where
   Options : StreamOptions → Row

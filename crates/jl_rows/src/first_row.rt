@@ -1,9 +1,10 @@
 //! The head of a file: its first row, and the checks of it.
-ghost use Rattle.std.specs.Prelude.{◌≡◌, IfOk};
-ghost use Rattle.jl_base.specs.Results.{Gives};
+ghost use Rattle.std.specs.Prelude.{◌≡◌, ◌≤◌, ◌^◌, ◌+◌, [], List, ℕ, None, IfOk, length, slice_range};
+ghost use Rattle.jl_base.specs.Results.{Gives, Reading};
+ghost use Rattle.jl_base.specs.declared.place.Fault as faults;
 ghost use Rattle.jl_rows.specs.Decoder as spec;
-ghost use Rattle.jl_rows.specs.Files.{HasShortFrames, fault_at, place_at};
-ghost use Rattle.jl_rows.specs.Heads.{ArePassed, HasHead, head_seen};
+ghost use Rattle.jl_rows.specs.Files.{HasShortFrames, Placed, fault_at, frames, place_at, rows_then};
+ghost use Rattle.jl_rows.specs.Heads.{ArePassed, BeginsWith, HasHead, head_seen};
 ghost use Rattle.jl_rows.specs.Seen.{HasRow, options_seen, row_seen};
 
 use crate::Options;
@@ -45,6 +46,34 @@ pub fn head_at(bytes: &[u8]) -> Head
             Ok(Some((row, _))) => return checked(bytes, frame, row),
             Ok(None) => {
                 at = stop;
+                frame += 1;
+            }
+            Err(kind) => return bad(frame, 1, kind),
+        }
+    }
+}
+
+/// What the whole frames between two places begin with, the first of which has this number, whatever follows them.
+pub fn head_in(bytes: &[u8], at: usize, end: usize, first: u64) -> Head
+    requires start { at ≤ end }
+    requires inside { end ≤ length bytes.now }
+    requires whole { (frames (slice_range bytes.now at end)).fault ≡ None }
+    requires numbers { first ≤ 2 ^ 62 + 1 }
+    ensures exact { (B : Reading Placed faults.Fault) → BeginsWith bytes.now (rows_then first (frames (slice_range bytes.now at end)).items B) B result }
+    ensures passed { HasHead bytes.now result }
+{
+    let mut place = at;
+    let mut frame = first;
+    'frames: loop {
+        let (start, stop) = match next_frame(bytes, place, end) {
+            Ok(Some(body)) => body,
+            Ok(None) => return Head::Empty,
+            Err(_) => unreachable!(),
+        };
+        match next_row_at(bytes, start, stop) {
+            Ok(Some((row, _))) => return checked(bytes, frame, row),
+            Ok(None) => {
+                place = stop;
                 frame += 1;
             }
             Err(kind) => return bad(frame, 1, kind),
@@ -97,4 +126,34 @@ fn first_row_checked(bytes: &[u8], row: Row) -> Result<Options, Kind>
         return Err(Kind::TableTooLarge);
     }
     Ok(options)
+}
+
+// The logical type goes with the physical type.
+fn goes_with(options: &Options) -> bool
+    ensures { result ≡ spec.goes_with (options_seen [] options.now) }
+{
+    match options.logical {
+        0 => true,
+        1 | 3 | 13 => options.physical == 1,
+        2 | 4 | 14 | 114 => options.physical == 2 || options.physical == 3,
+        _ => false,
+    }
+}
+
+impl Options {
+    /// The options of a first row, with `strict`, where they hold to what they declare.
+    pub fn strictly(self) -> Result<Options, Kind>
+        ensures exact { (bytes : List ℕ) → Gives (options_seen bytes) result (spec.strictly (options_seen bytes self)) }
+    {
+        if self.names < 8 {
+            return Err(Kind::SmallNames);
+        }
+        if !goes_with(&self) {
+            return Err(Kind::BadLogical);
+        }
+        Ok(Options {
+            strict: true,
+            ..self
+        })
+    }
 }

@@ -25,7 +25,7 @@ mod usual_terms;
 #[cfg(test)]
 mod usual_tests;
 
-pub use first_row::{Head, head_at};
+pub use first_row::{Head, head_at, head_in};
 pub use frame::next_frame;
 pub use frame_rows::{next_row_at, next_row_into};
 pub use in_space::{head, next_row, triple_term};

@@ -22,6 +22,8 @@ pub struct Options {
     pub datatypes: u32,
     pub logical: u32,
     pub version: u32,
+    /// What the file declares is checked. No message says this.
+    pub strict: bool,
 }
 
 /// What a file's rows make: triples, quads, or triples in graphs.

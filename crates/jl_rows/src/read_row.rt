@@ -50,6 +50,7 @@ fn options(bytes: &[u8], span: Span) -> Result<Options, Kind>
         datatypes: found.number(6),
         logical: found.number(7),
         version: found.number(8),
+        strict: false,
     })
 }
 

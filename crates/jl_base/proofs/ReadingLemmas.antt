@@ -5,10 +5,10 @@ use Rattle.std.specs.List.{slice_set}
 use Rattle.std.specs.Io.KnownBytes.{IsAtEnd}
 use Rattle.jl_base.specs.Causes.{Rose}
 use Rattle.jl_base.specs.Sources.{Told, Reads}
-use Rattle.jl_base.specs.SourceLists.{ReadsEach, EndsEach, RoseAt, total}
-use Rattle.jl_base.proofs.SourceListLemmas.{nothing_each, ReadsEach-none, ReadsEach-append, EndsEach-append, total-append, total-nothing_each, length-ReadsEach, RoseAt-behind}
+use Rattle.jl_base.specs.SourceLists.{ReadsEach, EndsEach, RoseAt, SteadyEach, total}
+use Rattle.jl_base.proofs.SourceListLemmas.{nothing_each, ReadsEach-none, ReadsEach-append, EndsEach-append, SteadyEach-none, SteadyEach-append, total-append, total-nothing_each, length-ReadsEach, RoseAt-behind}
 
--- The first n sources were read to their ends, and those behind them are as they were.
+-- The first n sources were read to their ends without a fault, and those behind them are as they were.
 pub record ReadFirst {S : Type 0} (told : S → Told) (n : ℕ) (old new : List S) (reads : List (List ℕ)) : Type 0 where
   pub befores : List S
   pub afters : List S
@@ -18,6 +18,7 @@ pub record ReadFirst {S : Type 0} (told : S → Told) (n : ℕ) (old new : List 
   pub count : length afters ≡ n
   pub each : ReadsEach told befores afters reads
   pub ends : EndsEach told afters
+  pub steady : SteadyEach told befores afters
 
 -- nothing was read yet
 pub read_none : {S : Type 0} (told : S → Told) (sources : List S) → ReadFirst told 0 sources sources []
@@ -30,6 +31,7 @@ read_none told sources = record {
   count = refl;
   each = tt;
   ends = tt;
+  steady = tt;
 }
 
 empty_list : {S : Type 0} (rest : List S) → length rest ≡ 0 → rest ≡ []
@@ -65,6 +67,13 @@ module _ {S : Type 0} (told : S → Told) (n : ℕ) (old new : List S) (reads : 
         subst (λ (sources : List S). EndsEach told sources) (sym after) first.ends,
       )
 
+  -- no source had a fault so far
+  pub steady_all : SteadyEach told old new
+  steady_all =
+      subst (λ (sources : List S). SteadyEach told sources new) (sym first.initial)
+      (subst (λ (sources : List S). SteadyEach told (first.befores ++ first.rest) sources) (sym first.current)
+      (SteadyEach-append told first.befores first.afters first.rest first.rest first.steady (SteadyEach-none told first.rest)))
+
 module _ {S : Type 0} (told : S → Told) (n : ℕ) (old new : List S) (reads : List (List ℕ)) (first : ReadFirst told n old new reads) (s t : S) (below : n < length new) (at : s ≡ get_or new n s) where
   next_one : Next first.rest s
   next_one = next_in first.afters first.rest n s first.count (omega (arith, ap length first.current)) (at ∙ ap (λ (sources : List S). get_or sources n s) first.current)
@@ -77,9 +86,9 @@ module _ {S : Type 0} (told : S → Told) (n : ℕ) (old new : List S) (reads : 
       ap (λ (sources : List S). slice_set sources n t) (first.current ∙ ap (λ (rest : List S). first.afters ++ rest) next_one.is)
       ∙ set_at first.afters s next_one.more t n first.count
 
-  -- the next one was read to its end too
-  pub read_more : (bytes : List ℕ) → Reads (told s) (told t) bytes → IsAtEnd (told t).left → ReadFirst told (n + 1) old (slice_set new n t) (reads ++ bytes ∷ [])
-  read_more bytes read end = record {
+  -- the next one was read to its end too, without a fault
+  pub read_more : (bytes : List ℕ) → Reads (told s) (told t) bytes → IsAtEnd (told t).left → (told t).faults ≡ (told s).faults → ReadFirst told (n + 1) old (slice_set new n t) (reads ++ bytes ∷ [])
+  read_more bytes read end steady = record {
     befores = first.befores ++ s ∷ [];
     afters = first.afters ++ t ∷ [];
     rest = next_one.more;
@@ -88,6 +97,7 @@ module _ {S : Type 0} (told : S → Told) (n : ℕ) (old new : List S) (reads : 
     count = length-append first.afters (t ∷ []) ∙ ap (λ (k : ℕ). k + 1) first.count;
     each = ReadsEach-append told first.befores first.afters (s ∷ []) (t ∷ []) reads (bytes ∷ []) first.each (read, tt);
     ends = EndsEach-append told first.afters (t ∷ []) first.ends (end, tt);
+    steady = SteadyEach-append told first.befores first.afters (s ∷ []) (t ∷ []) first.steady (steady, tt);
   }
 
   -- the next one was read, and none behind it
@@ -100,6 +110,14 @@ module _ {S : Type 0} (told : S → Told) (n : ℕ) (old new : List S) (reads : 
             (subst (λ (sources : List S). ReadsEach told (first.befores ++ s ∷ more) sources (reads ++ bytes ∷ nothing_each more)) (sym after_it) each),
         omega (arith, total-append reads (bytes ∷ nothing_each more), total-nothing_each more),
       )
+
+  -- nor had the next one a fault
+  pub steady_next : (told t).faults ≡ (told s).faults → SteadyEach told old (slice_set new n t)
+  steady_next steady =
+      let more = next_one.more in
+      subst (λ (sources : List S). SteadyEach told sources (slice_set new n t)) (sym before_it)
+      (subst (λ (sources : List S). SteadyEach told (first.befores ++ s ∷ more) sources) (sym after_it)
+      (SteadyEach-append told first.befores first.afters (s ∷ more) (t ∷ more) first.steady (steady, SteadyEach-none told more)))
 
   -- its count of faults rose
   pub rose_next : Rose (told s).faults (told t).faults → RoseAt told old (slice_set new n t) n

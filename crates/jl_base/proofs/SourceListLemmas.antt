@@ -3,7 +3,7 @@ use Rattle.std.proofs.Common.{◌≡◌, ℕ, suc, ◌+◌, ◌≤◌, List, [],
 use Rattle.std.specs.Io.KnownBytes.{Consumes, IsAtEnd}
 use Rattle.jl_base.specs.Causes.{Rose}
 use Rattle.jl_base.specs.Sources.{Told}
-use Rattle.jl_base.specs.SourceLists.{ReadsEach, EndsEach, LeftEach, RoseAt, total}
+use Rattle.jl_base.specs.SourceLists.{ReadsEach, EndsEach, LeftEach, RoseAt, SteadyEach, total}
 use Rattle.jl_base.proofs.SourceLemmas.{Reads-none}
 
 -- nothing was read of sources that stayed as they were
@@ -30,6 +30,16 @@ ReadsEach-append told (s ∷ ss) (t ∷ ts) us vs [] ys p q = absurd p
 pub EndsEach-append : {S : Type 0} (told : S → Told) (ss ts : List S) → EndsEach told ss → EndsEach told ts → EndsEach told (ss ++ ts)
 EndsEach-append told [] ts p q = q
 EndsEach-append told (s ∷ ss) ts p q = (p.0, EndsEach-append told ss ts p.1 q)
+
+pub SteadyEach-none : {S : Type 0} (told : S → Told) (sources : List S) → SteadyEach told sources sources
+SteadyEach-none told [] = tt
+SteadyEach-none told (source ∷ sources) = (refl, SteadyEach-none told sources)
+
+pub SteadyEach-append : {S : Type 0} (told : S → Told) (ss ts us vs : List S) → SteadyEach told ss ts → SteadyEach told us vs → SteadyEach told (ss ++ us) (ts ++ vs)
+SteadyEach-append told [] [] us vs p q = q
+SteadyEach-append told (s ∷ ss) (t ∷ ts) us vs p q = (p.0, SteadyEach-append told ss ts us vs p.1 q)
+SteadyEach-append told [] (t ∷ ts) us vs p q = absurd p
+SteadyEach-append told (s ∷ ss) [] us vs p q = absurd p
 
 pub total-append : (xs ys : List (List ℕ)) → total (xs ++ ys) ≡ total xs + total ys
 total-append [] ys = omega arith

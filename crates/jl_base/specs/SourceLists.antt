@@ -27,6 +27,12 @@ RoseAt told (before ∷ befores) (after ∷ afters) zero = Rose (told before).fa
 RoseAt told (before ∷ befores) (after ∷ afters) (suc n) = RoseAt told befores afters n
 RoseAt told befores afters n = ⊥
 
+-- the count of faults of each source stayed
+abbrev pub SteadyEach : {S : Type 0} → (S → Told) → List S → List S → Type 0
+SteadyEach told [] [] = Unit {0}
+SteadyEach told (before ∷ befores) (after ∷ afters) = ((told after).faults ≡ (told before).faults) × SteadyEach told befores afters
+SteadyEach told befores afters = ⊥
+
 -- how many bytes there are in all
 abbrev pub total : List (List ℕ) → ℕ
 total [] = 0

@@ -1,7 +1,7 @@
-ghost use Rattle.std.specs.Prelude.{◌≡◌, ◌<◌, ◌≤◌, ◌-◌, min, take, drop, length, vec_len, if◌then◌else◌, is_err, IfOk, OnErr};
+ghost use Rattle.std.specs.Prelude.{◌≡◌, ◌<◌, ◌≤◌, ◌-◌, min, take, drop, length, vec_len, if◌then◌else◌, is_err, IfOk};
 ghost use Rattle.std.specs.Io.{ReadsAtMost};
 ghost use Rattle.std.specs.Io.KnownBytes.{IsAtEnd};
-ghost use Rattle.jl_base.specs.Causes.{Rose};
+ghost use Rattle.jl_base.specs.Causes.{HasCause};
 ghost use Rattle.jl_base.specs.Schedules.{is_to_fail, after_call};
 ghost use Rattle.jl_base.specs.Sources.{Reads, moved, counted};
 
@@ -71,7 +71,7 @@ impl Source for MemSource {
         ensures bound { ReadsAtMost result buf.new }
         ensures read { Reads (told_of self.old) (told_of self.new) (moved result buf.new) }
         ensures end { result ≡ Ok 0 → 0 < length buf.new → IsAtEnd (told_of self.new).left }
-        ensures failed { OnErr result (Rose (told_of self.old).faults (told_of self.new).faults) }
+        ensures cause { HasCause (told_of self.old).faults (told_of self.new).faults result }
 
         // Exactly the calls whose numbers are listed fail, and nothing else is a fault.
         ensures fails { is_err result ≡ is_to_fail (schedule_of self.old) }

@@ -1,7 +1,7 @@
-ghost use Rattle.std.specs.Prelude.{◌≡◌, ◌<◌, length, OnErr};
+ghost use Rattle.std.specs.Prelude.{◌≡◌, ◌<◌, length};
 ghost use Rattle.std.specs.Io.{ReadsAtMost};
 ghost use Rattle.std.specs.Io.KnownBytes.{IsAtEnd};
-ghost use Rattle.jl_base.specs.Causes.{Rose};
+ghost use Rattle.jl_base.specs.Causes.{HasCause};
 ghost use Rattle.jl_base.specs.Sources.{Told, Reads, moved};
 
 use crate::Failed;
@@ -16,5 +16,5 @@ pub trait Source {
         ensures bound { ReadsAtMost result buf.new }
         ensures read { Reads (told self.old) (told self.new) (moved result buf.new) }
         ensures end { result ≡ Ok 0 → 0 < length buf.new → IsAtEnd (told self.new).left }
-        ensures failed { OnErr result (Rose (told self.old).faults (told self.new).faults) };
+        ensures cause { HasCause (told self.old).faults (told self.new).faults result };
 }

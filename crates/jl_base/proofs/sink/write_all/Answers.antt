@@ -10,5 +10,5 @@ loop-rest-preserved g c =
       done = c.loop-rest.invariant.done ++ take n rest;
       split = split_more _ c.loop-rest.invariant.done c.loop-rest.rest.now n c.loop-rest.invariant.split;
       adds = Adds-append _ _ _ _ _ c.loop-rest.invariant.adds c.in_ok-taken.ensures.adds;
-      later = omega arith;
+      steady = omega (arith, c.in_ok-taken.ensures.cause.steady);
     }

@@ -1,4 +1,4 @@
-use Rattle.std.proofs.Common.{ℕ, List, ◌≡◌, ◌++◌, ◌≤◌, length}
+use Rattle.std.proofs.Common.{ℕ, List, ◌≡◌, ◌++◌, length}
 use Rattle.jl_base.specs.Sinks.{Adds}
 use Rattle.jl_base.proofs.sink.write_all.Given as goal
 
@@ -10,7 +10,7 @@ invariant-loop-rest g l =
       done : List ℕ;
       split : l.piece ≡ done ++ l.rest;
       adds : Adds (held l.fn.sink) (held l.sink) done;
-      later : g.K.Sink.faults l.fn.sink ≤ g.K.Sink.faults l.sink;
+      steady : g.K.Sink.faults l.sink ≡ g.K.Sink.faults l.fn.sink;
     }
 
 abbrev pub decreases-loop-rest : goal.decreases-loop-rest

@@ -19,6 +19,9 @@ returns-then-limit-count g c =
       ended = tt;
       too_long = (λ _. omega arith, λ _. refl);
       failed = λ told. (cc);
+      steady = tt;
+      steady_at_limit = λ told. omega (arith, sofar.steady, c.in-Ok.ensures.cause.steady);
+      steady_without_memory = λ told. omega (arith, sofar.steady, c.in-Ok.ensures.cause.steady);
     }
 
 pub returns-in-Err : goal.returns-in-Err
@@ -37,4 +40,7 @@ returns-in-Err g c =
       ended = tt;
       too_long = (λ told. (cc), λ more. absurd (omega arith));
       failed = λ told. (cc);
+      steady = tt;
+      steady_at_limit = λ told. omega (arith, sofar.steady, c.in-Ok.ensures.cause.steady);
+      steady_without_memory = λ told. omega (arith, sofar.steady, c.in-Ok.ensures.cause.steady);
     }

@@ -12,6 +12,7 @@ invariant-pieces g l =
       appended : l.bytes.items ≡ l.fn.bytes.items ++ done;
       count : length done ≡ l.count;
       within : l.count ≤ l.limit;
+      steady : (told l.source).faults ≡ (told l.fn.source).faults;
     }
 
 abbrev pub decreases-pieces : goal.decreases-pieces

@@ -1,9 +1,7 @@
-pub mod CutLemmas
 pub mod FillLemmas
 pub mod ItemLemmas
 pub mod PartLemmas
 pub mod ReadingLemmas
-pub mod ScheduleLemmas
 pub mod SinkLemmas
 pub mod SourceLemmas
 pub mod SourceListLemmas

@@ -1,15 +1,9 @@
 pub mod Causes
-pub mod Cuts
-pub mod FileShelves
-pub mod FileSources
 pub mod Filling
 pub mod Items
 pub mod Kinds
-pub mod MemShelves
-pub mod MemSources
 pub mod Parts
 pub mod Results
-pub mod Schedules
 pub mod Sinks
 pub mod SourceLists
 pub mod Sources

@@ -1,9 +1,9 @@
-ghost use Rattle.std.specs.Prelude.{◌≡◌, ◌<◌, ◌^◌, [], length};
+ghost use Rattle.std.specs.Prelude.{◌≡◌, ◌<◌, ◌^◌, [], length, IfOk};
 ghost use Rattle.jl_base.specs.Filling.{Fills};
 ghost use Rattle.jl_base.specs.Spans.{text_of, IsInside};
 
 use crate::{Source, Span};
-use std::alloc::Global;
+use std::alloc::{AllocError, Global};
 use std::marker::Model;
 
 /// How many bytes are asked of a source at a time.
@@ -43,6 +43,14 @@ impl Space {
         }
     }
 
+    /// A space of these bytes.
+    pub fn from_bytes(alloc: Global, bytes: &[u8]) -> Result<Space, AllocError>
+        ensures { IfOk result (λ space. space ≡ bytes.now) }
+    {
+        let bytes = Vec::from_slice(alloc, bytes)?;
+        Ok(Space { bytes })
+    }
+
     #[inline]
     pub fn bytes(&self) -> &[u8]
         ensures all { result.now ≡ self.now }
@@ -62,8 +70,8 @@ impl Space {
         &self.bytes[start..start + span.len as usize]
     }
 
-    /// Reads the source to its end, and puts its bytes, of which there may be `limit`, behind those that are here.
-    /// After a refusal a front of what was read stands there. Takes memory for a buffer, and for the bytes as they
+    /// Reads the source to its end, and puts its bytes, of which there may be `limit`, after those that are here.
+    /// After a refusal a prefix of what was read stands there. Takes memory for a buffer, and for the bytes as they
     /// come.
     pub fn fill<S: Source>(&mut self, source: &mut S, limit: u64) -> Result<(), FillFault>
         ensures { Fills limit (S.told source.old) (S.told source.new) self.old self.new result }

@@ -1,0 +1,6 @@
+pub mod Cuts
+pub mod FileShelves
+pub mod FileSources
+pub mod MemShelves
+pub mod MemSources
+pub mod Schedules

@@ -8,6 +8,8 @@ against it:
 - What it says is what the plain reader says (reading.py) of the rows that protobuf's library finds in the damaged file.
   Where both have a fault, it is the same one at the same place. Protobuf takes some things that jellyp refuses (a field
   that stands twice, for one): there jellyp's fault may come first, and its text is what stands before that fault.
+
+The second is held against a strict reading, too.
 """
 import contextlib
 import os
@@ -20,8 +22,10 @@ from google.protobuf.message import DecodeError
 from jelly_peer import parsed
 from program import difference, fault_of
 
-# Faults that are met while bytes are read, and those of them that protobuf doesn't have, or not in the same way.
-WIRE = frozenset("Truncated BadVarint BadTag WrongWire Twice BadUtf8 TooDeep".split())
+# Faults that are met while bytes are read: all, those within a frame, and those of them that protobuf doesn't have, or not
+# in the same way.
+WIRE = frozenset("Truncated BadVarint BadTag WrongWire Twice BadUtf8 TooDeep FrameTooLong".split())
+WITHIN = WIRE - {"FrameTooLong"}
 OWN = frozenset("BadVarint BadTag WrongWire Twice TooDeep".split())
 
 
@@ -72,7 +76,7 @@ def rows_of(body):
                 rows.append(jelly.RdfStreamRow.FromString(body[begin:at]))
                 ends.append(at)
     except (Refused, DecodeError):
-        rows.append(WIRE)
+        rows.append(WITHIN)
     return rows, ends
 
 
@@ -82,10 +86,11 @@ def frames_of(data):
     while at < len(data):
         try:
             length, at = varint(data, at)
-            if length > len(data) - at:
-                raise Refused
         except Refused:
-            frames.append(WIRE)
+            frames.append(frozenset(("Truncated", "BadVarint")))
+            break
+        if length > 2**27 or length > len(data) - at:
+            frames.append(frozenset(("FrameTooLong" if length > 2**27 else "Truncated",)))
             break
         rows, row_ends = rows_of(data[at:at + length])
         frames.append(rows)
@@ -174,9 +179,9 @@ def renumber(made, frames):
 DAMAGES = (flip, flip, overwrite, cut, swap, drop, lose, renumber, renumber)
 
 
-def wrong_beside_reader(data, status, out, found):
+def wrong_beside_reader(data, strict, status, out, found):
     """What jellyp says against the plain reader."""
-    items, fault = reading.read(frames_of(data)[0])
+    items, fault = reading.read(frames_of(data)[0], strict)
     if status == 0:
         return difference(out, reading.text(items)) if fault is None else "no fault, and the reader has %s" % (fault,)
     place, name = found
@@ -213,18 +218,23 @@ def quiet():
         os.close(null)
 
 
+def check_validate(program, tally, what, damaged, ended, options):
+    """Status and line of `validate` are those with which `nquads` ended."""
+    said = program.run("validate", options=options)
+    right = (said[0], said[2]) == ended and (said[1] == b"") == (said[0] == 1)
+    tally.check("" if right else "%r beside %r of nquads" % (said, ended), "validate of " + what, damaged)
+
+
 def check(program, commands, tally, what, frames, damaged, first, is_cut):
     status, out, errors = program.run("nquads", damaged)
     found = fault_of(errors)
     if (status, errors) != (0, b"") and (status != 1 or found is None):
         tally.check("status %d, %r" % (status, errors), what, damaged)
         return
-    wrong = wrong_beside_reader(damaged, status, out, found)
+    wrong = wrong_beside_reader(damaged, False, status, out, found)
     tally.check(wrong or wrong_before_damage(frames, first, is_cut, out, found), what, damaged)
     if "validate" in commands:
-        said = program.run("validate")
-        right = said[0] == status and said[2] == errors and (said[1] == b"") == (status == 1)
-        tally.check("" if right else "%r beside %d, %r of nquads" % (said, status, errors), "validate of " + what, damaged)
+        check_validate(program, tally, what, damaged, (status, errors), [])
     if "inspect" in commands:
         said = program.run("inspect")
         right = said[2] == b"" if said[0] == 0 else said[0] == 1 and said[1] == b"" and fault_of(said[2]) is not None
@@ -232,6 +242,18 @@ def check(program, commands, tally, what, frames, damaged, first, is_cut):
         if status == 0 or found[1] in WIRE or found[1] == "EmptyRow":
             right = right and (said[0], said[2]) == (status, errors)
         tally.check("" if right else "%r beside %d, %r of nquads" % (said, status, errors), "inspect of " + what, damaged)
+
+
+def check_strictly(program, commands, tally, what, damaged):
+    options = ["--strict=1"]
+    status, out, errors = program.run("nquads", damaged, options)
+    found = fault_of(errors)
+    if (status, errors) != (0, b"") and (status != 1 or found is None):
+        tally.check("status %d, %r" % (status, errors), "strictly, " + what, damaged)
+        return
+    tally.check(wrong_beside_reader(damaged, True, status, out, found), "strictly, " + what, damaged)
+    if "validate" in commands:
+        check_validate(program, tally, "strictly, " + what, damaged, (status, errors), options)
 
 
 def run(program, commands, tally, seed, count):
@@ -245,3 +267,4 @@ def run(program, commands, tally, seed, count):
             what = "damaged file %d of seed %s (%s)" % (number, seed, damage.__name__)
             is_cut = damage in (cut, drop) and making.file_bytes(frames).startswith(damaged)
             check(program, commands, tally, what, frames, damaged, first, is_cut)
+            check_strictly(program, commands, tally, what, damaged)

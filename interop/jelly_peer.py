@@ -1,10 +1,13 @@
-"""Jelly files that protobuf's own library wrote: jellyp's text of each is that of the plain reader (reading.py)."""
+"""Jelly files that protobuf's own library wrote: jellyp's text of each is that of the plain reader (reading.py).
+
+Each is read strictly, too: what jellyp writes before the first fault, and that fault, are the plain reader's.
+"""
 import random
 
 import jelly_pb2 as jelly
 import making
 import reading
-from program import difference
+from program import STRICT, difference, fault_of
 
 
 # What a report counts, and the kind of row.
@@ -71,6 +74,27 @@ def check(program, commands, tally, name, frames):
         status, out, errors = program.run(command, data)
         ended = "" if (status, errors) == (0, b"") else "status %d, %r " % (status, errors)
         tally.check(ended + difference(out, wants[command]), "%s of %s" % (command, name), data)
+        if command != "inspect":
+            said = program.run(command, options=["--strict=0"])
+            differs = "" if said == (status, out, errors) else "%r" % (said,)
+            tally.check(differs, "%s --strict=0 of %s" % (command, name), data)
+
+
+def check_strictly(program, commands, tally, name, frames):
+    """Runs each command that has the option over one file, and answers the fault's names, if there is one."""
+    data = making.file_bytes(frames)
+    items, fault = reading.read(parsed(frames), strict=True)
+    wants = {"nquads": reading.text(items), "validate": b"" if fault else report_valid(frames, items).encode()}
+    for command in wants.keys() & set(commands):
+        status, out, errors = program.run(command, data, ["--strict=1"])
+        found = fault_of(errors)
+        if fault is None:
+            wrong = "" if (status, errors) == (0, b"") else "status %d, %r and no fault is meant " % (status, errors)
+        else:
+            right = status == 1 and found and found[0] == fault[0] and found[1] in fault[1]
+            wrong = "" if right else "status %d, %r and %s is meant " % (status, errors, fault)
+        tally.check(wrong + difference(out, wants[command]), "%s --strict=1 of %s" % (command, name), data)
+    return fault[1] if fault else set()
 
 
 def all_fields():
@@ -92,10 +116,11 @@ def run(program, commands, tally, seed, count):
     check(program, commands, tally, "a file without frames", [])
     check(program, commands, tally, "an empty frame", [jelly.RdfStreamFrame()])
     check(program, commands, tally, "triple terms 32 deep", nested(32))
-    missing = all_fields()
+    missing, unmet = all_fields(), set(STRICT)
     for number in range(count):
         frames = making.make(random.Random("%s, file %d" % (seed, number)), 1 + number % 3)
         check(program, commands, tally, "file %d of seed %s" % (number, seed), frames)
+        unmet -= check_strictly(program, commands, tally, "file %d of seed %s" % (number, seed), frames)
         if missing:
             missing.difference_update(*map(fields_of, frames))
     # Texts that the page of lines has no room for, and lines that go over its end.
@@ -103,3 +128,4 @@ def run(program, commands, tally, seed, count):
         frames = making.make(random.Random("%s, long file %d" % (seed, number)), 1 + number % 3, rows=400, longest=30000)
         check(program, commands, tally, "long file %d of seed %s" % (number, seed), frames)
     tally.check("no file has " + ", ".join(sorted(missing)) if missing else "", "every field stands in some file")
+    tally.check("no file has " + ", ".join(sorted(unmet)) if unmet else "", "every fault of a strict reading is met")

@@ -85,14 +85,18 @@ class Maker:
 
     def make_options(self):
         r = self.random
-        options = jelly.RdfStreamOptions(physical_type=self.physical, version=r.choice((1, 2)))
-        options.max_name_table_size = r.choice((1, 3, 8, 20, 65536))
+        # Of half of the files the first row holds in a strict reading, too, and all the rest of some of them.
+        holds = self.chance(0.5)
+        options = jelly.RdfStreamOptions(physical_type=self.physical, version=r.choice((1, 2, 2)))
+        options.max_name_table_size = r.choice((8, 20, 65536) if holds else (1, 3, 8, 20, 65536))
         options.max_prefix_table_size = r.choice((1, 3, 8, 65536) if self.plain else (0, 1, 3, 8, 65536))
         options.max_datatype_table_size = r.choice((0, 1, 3, 8, 65536))
         options.stream_name = self.text(ANY)
-        options.generalized_statements = self.chance(0.5)
-        options.rdf_star = self.chance(0.5)
+        options.generalized_statements = self.chance(0.6)
+        options.rdf_star = self.chance(0.6)
         options.logical_type = r.choice(jelly.LogicalStreamType.values() + [77])
+        if holds:
+            options.logical_type = r.choice((0, 1, 3, 13) if self.physical == TRIPLES else (0, 2, 4, 14, 114))
         return options
 
     def with_unknown(self, message):

@@ -69,10 +69,12 @@ def main():
         commands = commands_of(program, tally)
         if protobuf_is_there(tally, folder):
             import damage
+            import faults
             import findings
             import jelly_peer
             import made_peer
             import nquads_peer
+            faults.run(program, commands, tally)
             jelly_peer.run(program, commands, tally, words.seed, words.files)
             made_peer.run(program, os.path.abspath(words.encoder), tally)
             damage.run(program, commands, tally, words.seed, words.files)

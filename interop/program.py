@@ -3,8 +3,12 @@ import os
 import re
 import subprocess
 
+# All names in the order of their numbers, which are from 1 on. docs/check holds them against the program's source.
 FAULTS = ("Truncated BadVarint BadTag WrongWire Twice BadUtf8 TooDeep EmptyRow NoOptions BadOptions TableTooLarge "
-          "OptionsDiffer WrongRow BadEntry NoEntry NoTerm NoGraph GraphOpen BadLangtag").split()
+          "OptionsDiffer WrongRow BadEntry NoEntry NoTerm NoGraph GraphOpen BadLangtag FrameTooLong SmallNames BadLogical "
+          "NoStar NotPlain EarlyNamespace").split()
+# Those that a strict reading alone has.
+STRICT = "SmallNames BadLogical NoStar NotPlain EarlyNamespace".split()
 LINE = re.compile(r"jellyp: malformed: file 1, frame ([0-9]+), row ([0-9]+): (%s)\n\Z" % "|".join(FAULTS))
 USAGE = b"usage: jellyp COMMAND [--NAME=VALUE]... [FILE]...\n"
 
@@ -16,12 +20,13 @@ class Program:
         self.binary = binary
         self.file = os.path.join(folder, "file.jelly")
 
-    def run(self, command, data=None):
+    def run(self, command, data=None, options=()):
         """Status, output and error lines; of the data that were given last where none are given."""
         if data is not None:
             with open(self.file, "wb") as file:
                 file.write(data)
-        done = subprocess.run([self.binary, command, self.file], stdin=subprocess.DEVNULL, capture_output=True, timeout=60)
+        words = [self.binary, command, *options, self.file]
+        done = subprocess.run(words, stdin=subprocess.DEVNULL, capture_output=True, timeout=60)
         return done.returncode, done.stdout, done.stderr
 
     def has(self, command):

@@ -1,7 +1,7 @@
 """Reads Jelly in the plainest way, from protobuf's objects, and says what jellyp has to write.
 
 It goes over the rows one after another with three dictionaries for the tables. It shares nothing with jellyp, nor with
-making.py. The rules are those of docs/FORMAT.md: chapters 6 to 9 for rows, and 10 for their text.
+making.py. The rules are those of docs/FORMAT.md: chapters 6 to 9 for rows, 10 for their text, and 11 for a strict reading.
 """
 import re
 
@@ -11,6 +11,8 @@ ROWS = {1: ("triple",), 2: ("quad",), 3: ("triple", "graph_start", "graph_end")}
 ENTRIES = ("name", "prefix", "datatype")
 VALUES = ("stream_name", "physical_type", "generalized_statements", "rdf_star", "max_name_table_size",
           "max_prefix_table_size", "max_datatype_table_size", "logical_type", "version")
+# The logical types that go with each physical type, in a strict reading.
+LOGICAL = {1: (0, 1, 3, 13), 2: (0, 2, 4, 14, 114), 3: (0, 2, 4, 14, 114)}
 
 
 class Fault(Exception):
@@ -57,7 +59,8 @@ def item_text(item):
 class Reader:
     """What the rows so far have said."""
 
-    def __init__(self):
+    def __init__(self, strict):
+        self.strict = strict
         self.options = None
         self.tables = {table: {} for table in ENTRIES}
         self.last_entry = dict.fromkeys(ENTRIES, 0)
@@ -80,6 +83,8 @@ class Reader:
         if kind in ENTRIES:
             return self.entry(kind, message)
         if kind == "namespace":
+            if self.strict and self.options.version == 1:
+                raise Fault("EarlyNamespace")
             if not message.HasField("value"):
                 raise Fault("NoTerm")
             return ("namespace", message.name, self.iri(message.value))
@@ -94,6 +99,10 @@ class Reader:
             raise Fault("BadOptions")
         if any(self.size(message, table) > 65536 for table in ENTRIES):
             raise Fault("TableTooLarge")
+        if self.strict and self.size(message, "name") < 8:
+            raise Fault("SmallNames")
+        if self.strict and message.logical_type not in LOGICAL[message.physical_type]:
+            raise Fault("BadLogical")
         self.options = message
 
     @staticmethod
@@ -137,6 +146,8 @@ class Reader:
         if field is None:
             return None
         value, kind = getattr(message, field), field[2:]
+        if self.strict:
+            self.may_stand(kind, position)
         if kind == "iri":
             return ("iri", self.iri(value))
         if kind == "bnode":
@@ -144,6 +155,13 @@ class Reader:
         if kind == "default_graph":
             return ("default",)
         return self.literal(value) if kind == "literal" else self.triple_term(value)
+
+    def may_stand(self, kind, position):
+        if kind == "triple_term" and not self.options.rdf_star:
+            raise Fault("NoStar")
+        usual = kind == "iri" if position == "predicate" else kind != "literal" or position == "object"
+        if not usual and not self.options.generalized_statements:
+            raise Fault("NotPlain")
 
     def triple_term(self, message):
         terms = []
@@ -172,13 +190,13 @@ class Reader:
         return self.tables[table][number]
 
 
-def read(frames):
+def read(frames, strict=False):
     """The items of a file, each after its place, up to the first fault; and that fault's place and names, or None.
 
     A frame is a list of rows. In the place of a row, or of a frame, may stand a set of names: a fault that was met there
     while bytes were read, which is one of these.
     """
-    reader, items = Reader(), []
+    reader, items = Reader(strict), []
     for frame_number, frame in enumerate(frames, 1):
         if isinstance(frame, frozenset):
             return items, ((frame_number, 0), frame)

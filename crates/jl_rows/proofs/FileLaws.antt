@@ -7,7 +7,7 @@ use Rattle.jl_base.specs.declared.kind.Kind.{Kind}
 use Rattle.jl_base.specs.declared.place.Fault.{Fault}
 use Rattle.jl_wire.proofs.Ranges.{length-range}
 use Rattle.jl_rows.specs.Written.{StreamOptions, Row}
-use Rattle.jl_rows.specs.Files.{body, frames_after, frames, HasShortFrames, rows, Placed, place_at, fault_at, placed, placed_on, frame_rows, rows_from, rows_on}
+use Rattle.jl_rows.specs.Files.{body, frames_after, frames, rows, Placed, place_at, fault_at, placed, placed_on, frame_rows, rows_from, rows_on}
 use Rattle.jl_rows.specs.History.{History}
 use Rattle.jl_rows.specs.Decoder.{meaning, led_at, decoded, decoded_on}
 use Rattle.jl_rows.proofs.FrameLaws.{frame_size}
@@ -70,35 +70,6 @@ module _ (o : StreamOptions) (H : History) where
   pub decoded_end : (fault : Option Fault) → decoded_on o H (record { items = []; fault = fault }) ≡ record { items = []; fault = fault }
   unfolding decoded
   decoded_end fault = refl
-
--- no frame is longer than the file
-abbrev AreShort : List (List ℕ) → Type 0
-AreShort bodies = AllByRecursion (λ (body : List ℕ). length body < 2 ^ 32) bodies
-
-short_after : (skip : ℕ) (bytes : List ℕ) → length bytes < 2 ^ 32 → AreShort (frames_after skip bytes).items
-unfolding frames_after
-short_after skip [] lt = tt
-short_after (suc skip) (b ∷ bytes) lt = short_after skip bytes (omega arith)
-short_after zero (b ∷ bytes) lt = by_body (body (b ∷ bytes)) (λ f e. let sized = frame_size (b ∷ bytes) f e in omega (arith, sized.within, sized.shorter)) (λ skip. short_after skip bytes (omega arith))
-  where
-    by_body : (r : Result (List ℕ × ℕ) Kind) → ((f : List ℕ × ℕ) → r ≡ Ok f → length f.0 < 2 ^ 32) → ((skip : ℕ) → AreShort (frames_after skip bytes).items)
-        → AreShort (led r (λ f. with_front f.0 (frames_after (f.1 - 1) bytes))).items
-    by_body (Ok f) here behind = (here f refl, behind (f.1 - 1))
-    by_body (Err k) here behind = tt
-
-pub short_file : (file : List ℕ) → length file < 2 ^ 32 → HasShortFrames file
-short_file file lt = short_after 0 file lt
-
--- a frame in front, and the frames behind it
-pub short_next : (rest rest' : List ℕ) (body : List ℕ) → frames rest ≡ with_front body (frames rest') → HasShortFrames rest → (length body < 2 ^ 32) × HasShortFrames rest'
-short_next rest rest' body e short = subst (λ (R : Reading (List ℕ) Kind). AreShort R.items) e short
-
--- the same in a range of bytes, as next_frame reads them
-pub short_frame : (bytes : List ℕ) (at end start stop : ℕ) → frames (slice_range bytes at end) ≡ with_front (slice_range bytes start stop) (frames (slice_range bytes stop end)) → HasShortFrames (slice_range bytes at end)
-    → start ≤ stop → stop ≤ length bytes → (stop - start < 2 ^ 32) × HasShortFrames (slice_range bytes stop end)
-short_frame bytes at end start stop frame short le inside =
-    let both = short_next (slice_range bytes at end) (slice_range bytes stop end) (slice_range bytes start stop) frame short in
-    (omega (arith, both.0, length-range bytes start stop le inside), both.1)
 
 -- the whole of some bytes
 pub whole_range : (bytes : List ℕ) (end : ℕ) → end ≡ length bytes → slice_range bytes 0 end ≡ bytes

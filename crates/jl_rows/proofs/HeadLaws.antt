@@ -1,5 +1,5 @@
 -- The head of a file whose first frames have no rows.
-use Rattle.std.proofs.Common.{◌≡◌, ℕ, ◌+◌, List, [], slice_range, Some, None, ◌∙◌, ap}
+use Rattle.std.proofs.Common.{◌≡◌, false, ℕ, ◌+◌, List, [], slice_range, Some, None, ◌∙◌, ap}
 use Rattle.jl_base.specs.Results.{Reading, with_front}
 use Rattle.jl_base.specs.declared.kind.Kind.{Kind}
 use Rattle.jl_base.specs.declared.place.Fault.{Fault}
@@ -18,11 +18,11 @@ module _ (bytes : List ℕ) (n at end : ℕ) where
   abbrev pub Behind : Type 0
   Behind = rows_on 1 (frames bytes) ≡ rows_on n (frames (slice_range bytes at end))
 
-  pub nothing_left : Behind → at ≡ end → head bytes ≡ Head.Nothing
+  pub nothing_left : Behind → at ≡ end → head false bytes ≡ Head.Nothing
   unfolding head
   nothing_left before e = ap head_on (before ∙ file_done n (slice_range bytes at end) (frames_at_end bytes at end e))
 
-  pub no_frame : Behind → (k : _) → frames (slice_range bytes at end) ≡ record { items = []; fault = Some k } → head bytes ≡ Head.Bad (fault_at n 0 k)
+  pub no_frame : Behind → (k : _) → frames (slice_range bytes at end) ≡ record { items = []; fault = Some k } → head false bytes ≡ Head.Bad (fault_at n 0 k)
   unfolding head
   no_frame before k e = ap head_on (before ∙ file_broken n (slice_range bytes at end) k e)
 
@@ -31,13 +31,13 @@ module _ (bytes : List ℕ) (n at end : ℕ) where
     IsFrame = frames (slice_range bytes at end) ≡ with_front (slice_range bytes start stop) (frames (slice_range bytes stop end))
 
     pub first_row : Behind → IsFrame → (row : Row) (next : ℕ) → rows (slice_range bytes start stop) ≡ with_front row (rows (slice_range bytes next stop))
-        → head bytes ≡ head_checked (place_at n 1) (first_row_checked row)
+        → head false bytes ≡ head_checked (place_at n 1) (first_row_checked row)
     unfolding head
     first_row before frame row next e = ap head_on (
         before ∙ file_next n (slice_range bytes at end) (slice_range bytes stop end) (slice_range bytes start stop) frame
         ∙ rows_next n 0 (slice_range bytes start stop) (rows_on (n + 1) (frames (slice_range bytes stop end))) (slice_range bytes next stop) row e)
 
-    pub no_row : Behind → IsFrame → (k : Kind) → rows (slice_range bytes start stop) ≡ record { items = []; fault = Some k } → head bytes ≡ Head.Bad (fault_at n 1 k)
+    pub no_row : Behind → IsFrame → (k : Kind) → rows (slice_range bytes start stop) ≡ record { items = []; fault = Some k } → head false bytes ≡ Head.Bad (fault_at n 1 k)
     unfolding head
     no_row before frame k e = ap head_on (
         before ∙ file_next n (slice_range bytes at end) (slice_range bytes stop end) (slice_range bytes start stop) frame

@@ -12,7 +12,8 @@ use Rattle.jl_rows.specs.Written as written
 use Rattle.jl_rows.specs.Messages.{sort_of}
 use Rattle.jl_rows.specs.Reading.{Part, Parts, part, number_32, text, term, nothing_said, read_on, content_said, most_nested, message}
 use Rattle.jl_rows.specs.Rows.{triple, quad, entry, row_taken_if_known, row_walk, row_on, row}
-use Rattle.jl_rows.specs.Files.{said_in_frame, in_front, rows_among, rows}
+use Rattle.jl_rows.specs.Files as files
+use Rattle.jl_rows.specs.Files.{said_in_frame, in_front, rows_among, rows, up_to_row}
 use Rattle.jl_rows.specs.Seen.{term_seen, position_seen, row_seen}
 use Rattle.jl_rows.specs.Usual.{IsCounted, IsNumber, IsPosition, IsRowOf, IsTableOf, IsKind, with_part}
 use Rattle.jl_rows.specs.declared.message.Message.{Message}
@@ -198,3 +199,20 @@ row_in_front bytes at end next span r counted is behind said =
     let taken : said_in_frame 1 (Content.Bytes (text_of bytes span)) ≡ Ok (Some (row_seen bytes r)) = rw said refl in
     subst (λ (n : ℕ). rows (slice_range bytes at end) ≡ with_front (row_seen bytes r) (rows (slice_range bytes n end))) (sym behind)
     (ap (λ (fs : Reading Field Kind). rows_among fs.items fs.fault) all ∙ ap (λ (x : Result (Option written.Row) Kind). led x (λ y. in_front y (rows (slice_range bytes place end)))) taken)
+
+ends_by : (bytes : List ℕ) (at end place : ℕ) (content : Content) → fields (slice_range bytes at end) ≡ with_front (record { number = 1; content = content; size = place - at }) (fields (slice_range bytes place end)) → files.row_end (slice_range bytes at end) ≡ place - at
+unfolding files.row_end
+ends_by bytes at end place content all = ap (λ (fs : Reading Field Kind). up_to_row fs.items) all
+
+-- and where it ends
+pub row_in_front_ends : (bytes : List ℕ) (at end next : ℕ) (span : Span) → IsCounted bytes at end span → get_or bytes at 0 ≡ 10 → next ≡ span.at + span.len → next ≡ at + files.row_end (slice_range bytes at end)
+row_in_front_ends bytes at end next span counted is behind = omega (arith, behind, size, counted.after)
+  where
+    place : ℕ
+    place = span.at + span.len
+
+    tag : get_or bytes at 0 ≡ 1 * 8 + 2
+    tag = omega (arith, is)
+
+    size : files.row_end (slice_range bytes at end) ≡ span.at + span.len - at
+    size = ends_by bytes at end place (Content.Bytes (text_of bytes span)) (fields_in_front bytes at end place 1 (Content.Bytes (text_of bytes span)) (omega (arith, counted.after)) counted.before (counted.exact 1 (omega arith) (omega arith) tag))

@@ -55,7 +55,7 @@ first_row_checked _ = Err NoOptions
 abbrev pub goes_with : StreamOptions → Bool
 goes_with o = (o.logical == 0) || (is_triples o && ((o.logical == 1) || (o.logical == 3) || (o.logical == 13))) || ((is_quads o || is_graphs o) && ((o.logical == 2) || (o.logical == 4) || (o.logical == 14) || (o.logical == 114)))
 
--- the options of a first row, held to what they declare
+-- the options of a first row under the strict profile
 abbrev pub strictly : StreamOptions → Result StreamOptions Kind
 strictly o = do
   _ ← refuse_if (nat_lt o.names 8) SmallNames
@@ -117,11 +117,13 @@ abbrev pub is_object : Position → Bool
 is_object Position.Object = true
 is_object _ = false
 
--- a term, or in its place the kind of what it may not be at this position
+-- The strict profile of terms: a triple term stands only where the file declares them, and where it declares no
+-- generalized statements a predicate is an IRI, and a literal is an object. What may not stand is refused in its place.
 abbrev pub refused_if : Bool → Kind → Term → Term
 refused_if true kind t = Term.Refused kind
 refused_if false kind t = t
 
+-- a term at a position
 abbrev pub guarded : StreamOptions → Position → Term → Term
 guarded o x (Term.Bnode label) = refused_if (not o.generalized && is_predicate x) NotPlain (Term.Bnode label)
 guarded o x (Term.Literal lex e) = refused_if (not o.generalized && not (is_object x)) NotPlain (Term.Literal lex e)
@@ -137,6 +139,7 @@ row_guarded o (Row.Quad s p ob g) = Row.Quad (guarded o Position.Subject s) (gua
 row_guarded o (Row.GraphStart g) = Row.GraphStart (guarded o Position.Graph g)
 row_guarded o r = r
 
+-- a row as it is checked: under the strict profile with each term at its position
 abbrev pub read_under : StreamOptions → Row → Row
 read_under o r = if o.strict then row_guarded o r else r
 
@@ -172,14 +175,22 @@ head_of [] None = Nothing
 head_of [] (Some fault) = Bad fault
 head_of (r ∷ rs) fault = head_checked r.place (first_row_checked r.row)
 
-unfoldable pub head : List ℕ → Head
-head file = head_of (all_rows file).items (all_rows file).fault
+-- under the strict profile, options that keep to what they declare
+abbrev pub held_to : Bool → Head → Head
+held_to false h = h
+held_to true Nothing = Nothing
+held_to true (Bad fault) = Bad fault
+held_to true (First o place) = head_checked place (strictly o)
+
+-- the head of a file, under the strict profile or not
+unfoldable pub head : Bool → List ℕ → Head
+head strict file = held_to strict (head_of (all_rows file).items (all_rows file).fault)
 
 abbrev pub decoded_under : Head → List Placed → Option Fault → Reading Item Fault
 decoded_under Nothing rows fault = record { items = []; fault = None }
 decoded_under (Bad found) rows fault = record { items = []; fault = Some found }
 decoded_under (First o place) rows fault = decoded o [] rows fault
 
--- what a file states, and its first fault
-unfoldable pub decode : List ℕ → Reading Item Fault
-decode file = decoded_under (head file) (all_rows file).items (all_rows file).fault
+-- what a file states, under the strict profile or not, and its first fault
+unfoldable pub decode : Bool → List ℕ → Reading Item Fault
+decode strict file = decoded_under (head strict file) (all_rows file).items (all_rows file).fault

@@ -1,6 +1,5 @@
 -- Frames and the rows in them (Jelly RDF serialization, "Delimited variant of Jelly" and "RdfStreamFrame").
 use Rattle.std.specs.Prelude.{ℕ, zero, suc, ◌+◌, ◌-◌, ◌^◌, ◌<◌, ◌==◌, List, [], ◌∷◌, length, take, drop, Option, Some, None, Result, Ok, Err, nat_lt, if◌then◌else◌}
-use Rattle.std.specs.List.{AllByRecursion}
 use Rattle.jl_base.specs.Results.{◌>>=◌, Reading, led, with_front, joined}
 use Rattle.jl_base.specs.declared.kind.Kind.{Kind}
 use Rattle.jl_base.specs.declared.kind.Kind.TheVariants.{Truncated, WrongWire, FrameTooLong}
@@ -35,6 +34,15 @@ rows_among (f ∷ fs) fault = led (said_in_frame f.number f.content) (λ r. in_f
 unfoldable pub rows : List ℕ → Reading Row Kind
 rows body = rows_among (fields body).items (fields body).fault
 
+-- how many bytes these fields take up to the end of the first row
+abbrev pub up_to_row : List Field → ℕ
+up_to_row [] = 0
+up_to_row (f ∷ fs) = if f.number == 1 then f.size else f.size + up_to_row fs
+
+-- where the first row of a frame ends
+unfoldable pub row_end : List ℕ → ℕ
+row_end body = up_to_row (fields body).items
+
 -- how many bytes a frame's body may have
 abbrev pub most_body : ℕ
 most_body = 2 ^ 27
@@ -57,10 +65,6 @@ frames_after zero (b ∷ bytes) = led (body (b ∷ bytes)) (λ f. with_front f.0
 
 abbrev pub frames : List ℕ → Reading (List ℕ) Kind
 frames bytes = frames_after 0 bytes
-
--- each frame's body is shorter than 2^32 bytes
-abbrev pub HasShortFrames : List ℕ → Type 0
-HasShortFrames file = AllByRecursion (λ body. length body < 2 ^ 32) (frames file).items
 
 -- a row with its place
 pub record Placed : Type 0 where

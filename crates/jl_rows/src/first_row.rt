@@ -1,9 +1,9 @@
 //! The head of a file: its first row, and the checks of it.
-ghost use Rattle.std.specs.Prelude.{◌≡◌, ◌≤◌, ◌^◌, ◌+◌, [], List, ℕ, None, IfOk, length, slice_range};
+ghost use Rattle.std.specs.Prelude.{◌≡◌, ◌≤◌, ◌^◌, ◌+◌, [], List, ℕ, None, false, true, IfOk, length, slice_range};
 ghost use Rattle.jl_base.specs.Results.{Gives, Reading};
 ghost use Rattle.jl_base.specs.declared.place.Fault as faults;
 ghost use Rattle.jl_rows.specs.Decoder as spec;
-ghost use Rattle.jl_rows.specs.Files.{HasShortFrames, Placed, fault_at, frames, place_at, rows_then};
+ghost use Rattle.jl_rows.specs.Files.{Placed, fault_at, frames, place_at, rows_then};
 ghost use Rattle.jl_rows.specs.Heads.{ArePassed, BeginsWith, HasHead, head_seen};
 ghost use Rattle.jl_rows.specs.Seen.{HasRow, options_seen, row_seen};
 
@@ -13,7 +13,7 @@ use crate::frame_rows::next_row_at;
 use crate::row::Row;
 use jl_base::{Fault, Kind, Place};
 
-/// What a file begins with.
+/// What a file begins with. None of its options are `strict` but by `under`.
 #[derive(Clone, Copy, Debug)]
 pub enum Head {
     /// The file has no rows and no fault.
@@ -29,8 +29,7 @@ const MOST_ENTRIES: u32 = 65_536;
 
 /// The head of a file with these bytes. It is found without reading further than the first row.
 pub fn head_at(bytes: &[u8]) -> Head
-    requires { HasShortFrames bytes.now }
-    ensures exact { head_seen bytes.now result ≡ spec.head bytes.now }
+    ensures exact { head_seen bytes.now result ≡ spec.head false bytes.now }
     ensures passed { HasHead bytes.now result }
 {
     let end = bytes.len();
@@ -77,6 +76,26 @@ pub fn head_in(bytes: &[u8], at: usize, end: usize, first: u64) -> Head
                 frame += 1;
             }
             Err(kind) => return bad(frame, 1, kind),
+        }
+    }
+}
+
+impl Head {
+    /// The same head, under the strict profile where that is asked for: its options keep to what they declare, or are
+    /// the fault of the first row.
+    pub fn under(self, strict: bool) -> Head
+        ensures exact { (bytes : List ℕ) → head_seen bytes result ≡ spec.held_to strict (head_seen bytes self) }
+        ensures passed { (bytes : List ℕ) → HasHead bytes self → HasHead bytes result }
+    {
+        if !strict {
+            return self;
+        }
+        let Head::First(options, place) = self else {
+            return self;
+        };
+        match options.strictly() {
+            Ok(options) => Head::First(options, place),
+            Err(kind) => Head::Bad(Fault { place, kind }),
         }
     }
 }
@@ -141,9 +160,11 @@ fn goes_with(options: &Options) -> bool
 }
 
 impl Options {
-    /// The options of a first row, with `strict`, where they hold to what they declare.
+    /// The options of a first row under the strict profile: SmallNames for a name table of fewer than 8 entries, then
+    /// BadLogical for a logical type that doesn't go with the physical type. Takes no memory.
     pub fn strictly(self) -> Result<Options, Kind>
         ensures exact { (bytes : List ℕ) → Gives (options_seen bytes) result (spec.strictly (options_seen bytes self)) }
+        ensures kept { IfOk result (λ o. o ≡ record self { strict = true }) }
     {
         if self.names < 8 {
             return Err(Kind::SmallNames);

@@ -1,5 +1,6 @@
 //! The rows of a frame, one after another: those of usual shape by a short way, all others by the reader of any row.
-ghost use Rattle.std.specs.Prelude.{◌+◌, ◌-◌, ◌<◌, ◌≤◌, ◌^◌, IfOk, IfSome, length};
+ghost use Rattle.std.specs.Prelude.{◌≡◌, ◌+◌, ◌-◌, ◌<◌, ◌≤◌, ◌^◌, IfOk, IfSome, length, slice_range};
+ghost use Rattle.jl_rows.specs.Files.{row_end};
 ghost use Rattle.jl_rows.specs.Seen.{IsNextRow, IsRowWithin};
 ghost use Rattle.jl_rows.specs.Usual.{written_row};
 
@@ -17,6 +18,7 @@ pub fn next_row_at(bytes: &[u8], at: usize, end: usize) -> Result<Option<(Row, u
     ensures exact { IsNextRow bytes.now at end result }
     ensures within { IfOk result (λ found. IfSome found (IsRowWithin bytes.now at end)) }
     ensures wide { IfOk result (λ found. IfSome found (λ r. at + 2 ≤ r.1)) }
+    ensures place { IfOk result (λ found. IfSome found (λ r. r.1 ≡ at + row_end (slice_range bytes.now at end))) }
 {
     let mut row = Row::GraphEnd;
     if let Some(next) = usual_row(bytes, at, end, &mut row) {
@@ -34,6 +36,7 @@ fn any_row_into(bytes: &[u8], at: usize, end: usize, row: &mut Row) -> Result<Op
     ensures exact { IsNextRow bytes.now at end (written_row row.new result) }
     ensures within { IfOk result (λ found. IfSome found (λ next. IsRowWithin bytes.now at end (row.new, next))) }
     ensures wide { IfOk result (λ found. IfSome found (λ next. at + 2 ≤ next)) }
+    ensures place { IfOk result (λ found. IfSome found (λ next. next ≡ at + row_end (slice_range bytes.now at end))) }
 {
     match any_row_at(bytes, at, end)? {
         Some((found, next)) => {
@@ -59,6 +62,7 @@ pub fn next_row_into(
     ensures exact { IsNextRow bytes.now at end (written_row row.new result) }
     ensures within { IfOk result (λ found. IfSome found (λ next. IsRowWithin bytes.now at end (row.new, next))) }
     ensures wide { IfOk result (λ found. IfSome found (λ next. at + 2 ≤ next)) }
+    ensures place { IfOk result (λ found. IfSome found (λ next. next ≡ at + row_end (slice_range bytes.now at end))) }
 {
     if let Some(next) = usual_row(bytes, at, end, row) {
         return Ok(Some(next));

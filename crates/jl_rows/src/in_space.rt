@@ -1,8 +1,8 @@
 //! The readers over the bytes of an input.
-ghost use Rattle.std.specs.Prelude.{◌≡◌, ◌+◌, ◌≤◌, IfOk, IfSome};
+ghost use Rattle.std.specs.Prelude.{◌≡◌, ◌+◌, ◌≤◌, false, slice_range, IfOk, IfSome};
 ghost use Rattle.jl_base.specs.Spans.{IsInside, text_of};
 ghost use Rattle.jl_rows.specs.Decoder as spec;
-ghost use Rattle.jl_rows.specs.Files.{HasShortFrames};
+ghost use Rattle.jl_rows.specs.Files.{row_end};
 ghost use Rattle.jl_rows.specs.Heads.{HasHead, head_seen};
 ghost use Rattle.jl_rows.specs.Seen.{HasTriple, IsNextRow, IsRowWithin, nested_at, nested_seen};
 
@@ -21,6 +21,7 @@ pub fn next_row(space: &Space, frame: Span, at: u64) -> Result<Option<(Row, u64)
     ensures exact { IsNextRow space.now at (frame.at + frame.len) result }
     ensures within { IfOk result (λ found. IfSome found (IsRowWithin space.now at (frame.at + frame.len))) }
     ensures wide { IfOk result (λ found. IfSome found (λ r. at + 2 ≤ r.1)) }
+    ensures place { IfOk result (λ found. IfSome found (λ r. r.1 ≡ at + row_end (slice_range space.now at (frame.at + frame.len)))) }
 {
     let bytes = space.bytes();
     let end = frame.at as usize + frame.len as usize;
@@ -41,8 +42,7 @@ pub fn triple_term(space: &Space, inner: Span) -> RawTriple
 
 /// The head of a file with these bytes. It is found without reading further than the first row.
 pub fn head(space: &Space) -> Head
-    requires { HasShortFrames space.now }
-    ensures exact { head_seen space.now result ≡ spec.head space.now }
+    ensures exact { head_seen space.now result ≡ spec.head false space.now }
     ensures passed { HasHead space.now result }
 {
     head_at(space.bytes())

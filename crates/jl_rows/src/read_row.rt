@@ -221,6 +221,7 @@ pub fn any_row_at(bytes: &[u8], at: usize, end: usize) -> Result<Option<(Row, us
     ensures exact { IsNextRow bytes.now at end result }
     ensures within { IfOk result (λ found. IfSome found (IsRowWithin bytes.now at end)) }
     ensures wide { IfOk result (λ found. IfSome found (λ r. at + 2 ≤ r.1)) }
+    ensures place { IfOk result (λ found. IfSome found (λ r. r.1 ≡ at + files.row_end (slice_range bytes.now at end))) }
 {
     let mut place = at;
     'fields: while let Some(field) = next_field(bytes, place, end)? {

@@ -11,7 +11,6 @@ use std::process::Abort;
 use std::test::Fail;
 
 // The frame and the row of a file's head, and its fault.
-#[tactic(auto, using(crate::proofs::FileLaws::short_file))]
 fn outcome(rt: &impl Abort, file: &[u8]) -> (u64, u32, Option<Kind>) {
     assert!(rt; file.len() < 100);
     match head_at(file) {
@@ -195,7 +194,6 @@ fn names(term: Option<RawTerm>) -> u32 {
     }
 }
 
-#[tactic(auto, using(crate::proofs::FileLaws::short_file))]
 fn short_head(rt: &impl Abort, space: &Space) -> Head
     ensures { HasHead space.now result }
 {

@@ -1,7 +1,8 @@
 //! Rows of usual shape: a frame's field whose one field fills it. They are written where the caller keeps its row, since
 //! a row is large to copy. None says nothing of what stands there, and then the row there is whatever was written.
-ghost use Rattle.std.specs.Prelude.{◌≡◌, ◌+◌, ◌≤◌, IfSome, IsTrue, Ok, Some, length, slice_index, false};
+ghost use Rattle.std.specs.Prelude.{◌≡◌, ◌+◌, ◌≤◌, IfSome, IsTrue, Ok, Some, length, slice_index, slice_range, false};
 ghost use Rattle.jl_base.specs.Spans.{text_of};
+ghost use Rattle.jl_rows.specs.Files.{row_end};
 ghost use Rattle.jl_rows.specs.Rows as rows;
 ghost use Rattle.jl_rows.specs.declared.row.Row.TheVariants.{Quad, Triple};
 ghost use Rattle.jl_rows.specs.Seen.{row_seen, HasRow, IsNextRow, IsRowWithin};
@@ -191,6 +192,7 @@ pub fn usual_row(bytes: &[u8], at: usize, end: usize, row: &mut Row) -> Option<u
     ensures exact { IfSome result (λ next. IsNextRow bytes.now at end (Ok (Some (row.new, next)))) }
     ensures within { IfSome result (λ next. IsRowWithin bytes.now at end (row.new, next)) }
     ensures wide { IfSome result (λ next. at + 2 ≤ next) }
+    ensures place { IfSome result (λ next. next ≡ at + row_end (slice_range bytes.now at end)) }
 {
     if bytes.len() - end < 16 {
         return None;

@@ -2,7 +2,6 @@
 use Rattle.std.proofs.Common.{◌∙◌, ap, sym, arith, length}
 use Rattle.jl_rows.specs.Heads.{head_seen}
 use Rattle.jl_rows.specs.Seen.{row_seen}
-use Rattle.jl_rows.proofs.FileLaws.{short_frame}
 use Rattle.jl_rows.proofs.HeadLaws.{nothing_left, no_frame, first_row, no_row, frame_without_rows}
 use Rattle.jl_rows.proofs.first_row.head_at.Goals as goal
 
@@ -31,7 +30,6 @@ frames-preserved c =
     record {
       inside = within.2;
       counted = omega (arith, within, c.frames.invariant.counted);
-      short = (short_frame c.args.bytes.now c.frames.at (length c.args.bytes.now) c.in-Ok-Some.body.0 c.in-Ok-Some.body.1 frame.exact c.frames.invariant.short within.1 within.2).1;
       rest = frame_without_rows c.args.bytes.now c.frames.frame c.frames.at (length c.args.bytes.now) c.in-Ok-Some.body.0 c.in-Ok-Some.body.1 c.frames.invariant.rest frame.exact none.exact;
     }
 

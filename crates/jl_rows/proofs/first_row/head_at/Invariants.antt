@@ -1,5 +1,5 @@
 use Rattle.std.proofs.Common.{◌≡◌, ◌+◌, ◌-◌, ◌≤◌, slice_range}
-use Rattle.jl_rows.specs.Files.{HasShortFrames, frames, rows_on}
+use Rattle.jl_rows.specs.Files.{frames, rows_on}
 use Rattle.jl_rows.proofs.first_row.head_at.Given as goal
 
 -- the rows of the file are those of what is left; each frame behind took a byte
@@ -7,7 +7,6 @@ abbrev pub invariant-frames : goal.invariant-frames
 invariant-frames l = record {
   inside : l.at ≤ l.end;
   counted : l.frame ≤ l.at + 1;
-  short : HasShortFrames (slice_range l.bytes l.at l.end);
   rest : rows_on 1 (frames l.bytes) ≡ rows_on l.frame (frames (slice_range l.bytes l.at l.end));
 }
 

@@ -1,7 +1,7 @@
-use Rattle.std.proofs.Common.{◌∙◌, arith, Some, None}
+use Rattle.std.proofs.Common.{◌∙◌, sym, arith, Some, None}
 use Rattle.std.proofs.lemmas.Result.{err_from_is_err_and}
 use Rattle.jl_rows.specs.Seen.{row_seen}
-use Rattle.jl_rows.proofs.RowWalking.{row_is_wide, rows_end, rows_fault, rows_took, rows_refused}
+use Rattle.jl_rows.proofs.RowWalking.{row_is_wide, end_here, end_later, rows_end, rows_fault, rows_took, rows_refused}
 use Rattle.jl_rows.proofs.read_row.any_row_at.Goals as goal
 
 pub returns-in_err-field-clause-exact : goal.returns-in_err-field-clause-exact
@@ -30,6 +30,13 @@ returns-in-Some-2-clause-wide c =
     let wide = row_is_wide c.args.bytes.now c.fields.place c.args.end c.in-Some.field said (row_seen c.args.bytes.now c.in-Some-2.row) found in
     omega (arith, wide, c.fields.invariant.after)
 
+pub returns-in-Some-2-clause-place : goal.returns-in-Some-2-clause-place
+returns-in-Some-2-clause-place c =
+    let said = rw c.in-Some.is at c.in_ok-field.ensures.exact in
+    let within = rw c.in-Some.is at c.in_ok-field.ensures.within in
+    let found = rw c.in-Some-2.is at c.in_ok-row.ensures.exact in
+    end_here c.args.bytes.now c.fields.place c.args.end c.in-Some.field said within (row_seen c.args.bytes.now c.in-Some-2.row) found ∙ sym c.fields.invariant.ends
+
 pub fields-preserved : goal.fields-preserved
 fields-preserved c =
     let said = rw c.in-Some.is at c.in_ok-field.ensures.exact in
@@ -39,6 +46,7 @@ fields-preserved c =
       before = within.before;
       after = omega (arith, within.after, c.fields.invariant.after);
       rest = c.fields.invariant.rest ∙ rows_took c.args.bytes.now c.fields.place c.args.end c.in-Some.field said within None found;
+      ends = c.fields.invariant.ends ∙ end_later c.args.bytes.now c.fields.place c.args.end c.in-Some.field said within found;
     }
 
 pub returns-clause-exact : goal.returns-clause-exact

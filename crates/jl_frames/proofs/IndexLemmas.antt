@@ -5,9 +5,9 @@ use Rattle.jl_base.specs.Results.{Reading, followed, with_front}
 use Rattle.jl_base.specs.Spans.{text_of}
 use Rattle.jl_base.specs.declared.kind.Kind.{Kind}
 use Rattle.jl_base.specs.declared.place.Span.{Span}
-use Rattle.jl_rows.specs.Files.{frames, ends_at, HasShortFrames}
-use Rattle.jl_rows.proofs.FileLaws.{whole_range, short_frame}
-use Rattle.jl_frames.specs.Index.{IsIndex, IsFrameAt, AreFrames, AreFit, behind, end_of, from, last_end}
+use Rattle.jl_rows.specs.Files.{frames, ends_at}
+use Rattle.jl_rows.proofs.FileLaws.{whole_range}
+use Rattle.jl_frames.specs.Index.{IsIndex, IsFrameAt, AreFrames, AreLaid, AreFit, end_of, from, last_end}
 
 -- The frames up to a place.
 pub record Indexed (file : List ℕ) (bodies : List Span) (at : ℕ) : Type 0 where
@@ -15,7 +15,6 @@ pub record Indexed (file : List ℕ) (bodies : List Span) (at : ℕ) : Type 0 wh
   pub read : frames file ≡ followed (map (text_of file) bodies) None (frames (from file at))
   pub places : AreFrames file 0 bodies at
   pub last : last_end 0 bodies ≡ at
-  pub short : HasShortFrames (from file at)
 
 abbrev pub body_at : ℕ → ℕ → Span
 body_at start end = record { at = start; len = end - start }
@@ -33,15 +32,14 @@ frames-snoc file at [] m body same here = (subst (λ (n : ℕ). IsFrameAt file n
 frames-snoc file at (b ∷ bodies) m body both here = (both.0, frames-snoc file (end_of b) bodies m body both.1 here)
 
 module _ (file : List ℕ) where
-  pub indexed_none : HasShortFrames file → Indexed file [] 0
-  indexed_none short =
+  pub indexed_none : Indexed file [] 0
+  indexed_none =
       let whole : slice_range file 0 (length file) ≡ file = whole_range file (length file) refl in
       record {
         inside = omega arith;
         read = sym (ap frames whole);
         places = refl;
         last = refl;
-        short = subst HasShortFrames (sym whole) short;
       }
 
   module _ (bodies : List Span) (at : ℕ) (so_far : Indexed file bodies at) where
@@ -67,15 +65,16 @@ module _ (file : List ℕ) where
             (ap (λ (e : ℕ). map (text_of file) bodies ++ slice_range file start e ∷ []) (sym same_end) ∙ sym (map-snoc (text_of file) bodies (body_at start end)));
         places = subst (λ (e : ℕ). AreFrames file 0 (bodies ++ body_at start end ∷ []) e) same_end (frames-snoc file 0 bodies at (body_at start end) so_far.places here);
         last = last_end-snoc 0 bodies (body_at start end) ∙ same_end;
-        short = (short_frame file at (length file) start end frame so_far.short le within).1;
       }
 
-    pub indexed_whole : (fault : Option Kind) → frames (from file at) ≡ record { items = []; fault = fault } → IsIndex file (record { bodies = bodies; tail = ends_at (length bodies + 1) 0 fault })
+    pub indexed_whole : (fault : Option Kind) → frames (from file at) ≡ record { items = []; fault = fault } → IsIndex file (record { bodies = bodies; tail = ends_at (length bodies + 1) 0 fault; lo = 0; first = 1 })
     indexed_whole fault rest =
         let all : frames file ≡ record { items = map (text_of file) bodies; fault = fault } =
         so_far.read ∙ ap (followed (map (text_of file) bodies) None) rest ∙ ap (λ (xs : List (List ℕ)). record { items = xs; fault = fault }) (append-nil (map (text_of file) bodies)) in
         let same : (frames file).fault ≡ fault = ap (λ (r : Reading (List ℕ) Kind). r.fault) all in
         record {
+          lo = refl;
+          first = refl;
           bodies = sym (ap (λ (r : Reading (List ℕ) Kind). r.items) all);
           tail = ap (ends_at (length bodies + 1) 0) (sym same);
           places = subst (λ (e : ℕ). AreFrames file 0 bodies e) (sym so_far.last) so_far.places;
@@ -93,8 +92,8 @@ are_fit file at (b ∷ bodies) m small all (suc i) body e = are_fit file (end_of
 
 -- A frame of an index, by its number of frames before it.
 pub record IsFrameOf (file : List ℕ) (bodies : List Span) (k : ℕ) (body : Span) : Type 0 where
-  pub here : IsFrameAt file (behind bodies k) body
-  pub next : behind bodies (k + 1) ≡ end_of body
+  pub here : IsFrameAt file (last_end 0 (take k bodies)) body
+  pub next : last_end 0 (take (k + 1) bodies) ≡ end_of body
 
 frame_from : (file : List ℕ) (at : ℕ) (bodies : List Span) (m k : ℕ) (body : Span) → AreFrames file at bodies m → slice_get bodies k ≡ Some body
     → IsFrameAt file (last_end at (take k bodies)) body × (last_end at (take (suc k) bodies) ≡ end_of body)
@@ -106,7 +105,16 @@ pub frame_of : (file : List ℕ) (bodies : List Span) (m k : ℕ) (body : Span) 
 frame_of file bodies m k body all e =
     let found = frame_from file 0 bodies m k body all e in
     let next : k + 1 ≡ suc k = omega arith in
-    record { here = found.0; next = ap (behind bodies) next ∙ found.1 }
+    record { here = found.0; next = ap (λ (n : ℕ). last_end 0 (take n bodies)) next ∙ found.1 }
 
-pub behind_all : (bodies : List Span) (k : ℕ) → length bodies ≡ k → behind bodies k ≡ last_end 0 bodies
+pub behind_all : (bodies : List Span) (k : ℕ) → length bodies ≡ k → last_end 0 (take k bodies) ≡ last_end 0 bodies
 behind_all bodies k same = ap (last_end 0) (take_all k bodies (omega (arith, same)))
+
+-- frames that follow one another are laid so, and end within the file
+pub laid_frames : (file : List ℕ) (at : ℕ) (bodies : List Span) (end : ℕ) → AreFrames file at bodies end → AreLaid at bodies end
+laid_frames file at [] end all = all
+laid_frames file at (b ∷ bodies) end all = (all.0.above, laid_frames file (end_of b) bodies end all.1)
+
+pub ends_within : (file : List ℕ) (at : ℕ) (bodies : List Span) (end : ℕ) → at ≤ length file → AreFrames file at bodies end → end ≤ length file
+ends_within file at [] end le all = omega (arith, le, all)
+ends_within file at (b ∷ bodies) end le all = ends_within file (end_of b) bodies end all.0.within all.1

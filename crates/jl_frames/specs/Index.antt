@@ -1,4 +1,4 @@
--- The index of a file: where its frames' bodies lie (Jelly RDF serialization, "Delimited variant of Jelly").
+-- The index of some frames: where their bodies lie (Jelly RDF serialization, "Delimited variant of Jelly").
 use Rattle.std.specs.Prelude.{◌≡◌, ℕ, ◌+◌, ◌^◌, ◌<◌, ◌≤◌, List, [], ◌∷◌, length, map, take, slice_get, slice_range, Option, Some}
 use Rattle.jl_base.specs.Results.{with_front}
 use Rattle.jl_base.specs.Spans.{text_of}
@@ -6,9 +6,13 @@ use Rattle.jl_base.specs.declared.place.Span.{Span}
 use Rattle.jl_base.specs.declared.place.Fault.{Fault}
 use Rattle.jl_rows.specs.Files.{frames, ends_at}
 
+-- `lo` is the place of the first frame's length, and `first` the first frame's number; where there is no frame they are
+-- those that it would have.
 pub record Index : Type 0 where
   pub bodies : List Span
   pub tail : Option Fault
+  pub lo : ℕ
+  pub first : ℕ
 
 -- the place behind a body
 abbrev pub end_of : Span → ℕ
@@ -33,17 +37,24 @@ abbrev pub AreFrames : List ℕ → ℕ → List Span → ℕ → Type 0
 AreFrames file at [] end = at ≡ end
 AreFrames file at (body ∷ bodies) end = IsFrameAt file at body × AreFrames file (end_of body) bodies end
 
--- the place behind the last of some frames, and the file's beginning where there is none
+-- a body lies between its length and the next frame's, from one place to another
+abbrev pub AreLaid : ℕ → List Span → ℕ → Type 0
+AreLaid at [] end = at ≡ end
+AreLaid at (body ∷ bodies) end = (at < body.at) × AreLaid (end_of body) bodies end
+
+-- the place after the last of some frames, or where they begin if there is none
 abbrev pub last_end : ℕ → List Span → ℕ
 last_end at [] = at
 last_end at (body ∷ bodies) = last_end (end_of body) bodies
 
--- the place behind the first n frames
-abbrev pub behind : List Span → ℕ → ℕ
-behind bodies n = last_end 0 (take n bodies)
+-- the place after the first n frames
+abbrev pub behind : Index → ℕ → ℕ
+behind index n = last_end index.lo (take n index.bodies)
 
--- All frames of the file, and the fault of what stands behind them: its row is 0, and its frame one more than they are.
+-- All frames of the file, and the fault of what stands after them: its row is 0, and its frame one more than they are.
 pub record IsIndex (file : List ℕ) (index : Index) : Type 0 where
+  pub lo : index.lo ≡ 0
+  pub first : index.first ≡ 1
   pub bodies : map (text_of file) index.bodies ≡ (frames file).items
   pub tail : index.tail ≡ ends_at (length index.bodies + 1) 0 (frames file).fault
   pub places : AreFrames file 0 index.bodies (last_end 0 index.bodies)

@@ -1,34 +1,33 @@
 -- Runs of frames, and waves of runs.
 use Rattle.std.specs.Prelude.{◌≡◌, ℕ, ◌+◌, ◌-◌, ◌*◌, ◌/◌, ◌<◌, min, List, [], ◌∷◌, length, slice_get, take, Some}
 use Rattle.jl_base.specs.declared.place.Run.{Run}
-use Rattle.jl_base.specs.declared.place.Span.{Span}
-use Rattle.jl_frames.specs.Index.{behind}
+use Rattle.jl_frames.specs.Index.{Index, behind}
 
--- a run of n frames behind the first k
-abbrev pub run_behind : List Span → ℕ → ℕ → Run
-run_behind bodies k n = record { lo = behind bodies k; hi = behind bodies (k + n); first_frame = k + 1; frames = n }
+-- a run of n frames after the first k
+abbrev pub run_behind : Index → ℕ → ℕ → Run
+run_behind index k n = record { lo = behind index k; hi = behind index (k + n); first_frame = index.first + k; frames = n }
 
 -- how many frames stand before run i, where a run has `per`
 abbrev pub before_run : ℕ → ℕ → ℕ → ℕ
 before_run count per i = min (i * per) count
 
--- run i has the frames i·per + 1 to (i + 1)·per, as far as there are frames
-abbrev pub run_of : List Span → ℕ → ℕ → Run
-run_of bodies per i = run_behind bodies (before_run (length bodies) per i) (before_run (length bodies) per (i + 1) - before_run (length bodies) per i)
+-- run i has `per` frames after the first i·per, as far as there are frames
+abbrev pub run_of : Index → ℕ → ℕ → Run
+run_of index per i = run_behind index (before_run (length index.bodies) per i) (before_run (length index.bodies) per (i + 1) - before_run (length index.bodies) per i)
 
 -- how many groups of `per` there are, the last one perhaps shorter
 abbrev pub groups_of : ℕ → ℕ → ℕ
 groups_of per count = (count + per - 1) / per
 
 -- The runs of a plan with `per` frames in each.
-pub record IsCut (bodies : List Span) (per : ℕ) (runs : List Run) : Type 0 where
-  pub count : length runs ≡ groups_of per (length bodies)
-  pub each : (i : ℕ) → i < length runs → slice_get runs i ≡ Some (run_of bodies per i)
+pub record IsCut (index : Index) (per : ℕ) (runs : List Run) : Type 0 where
+  pub count : length runs ≡ groups_of per (length index.bodies)
+  pub each : (i : ℕ) → i < length runs → slice_get runs i ≡ Some (run_of index per i)
 
 -- these runs cover the frames behind the first k up to the n-th in order, without a gap, and none is empty
-abbrev pub Cover : List Span → ℕ → List Run → ℕ → Type 0
-Cover bodies k [] n = k ≡ n
-Cover bodies k (run ∷ runs) n = (run ≡ run_behind bodies k run.frames) × (0 < run.frames) × Cover bodies (k + run.frames) runs n
+abbrev pub Cover : Index → ℕ → List Run → ℕ → Type 0
+Cover index k [] n = k ≡ n
+Cover index k (run ∷ runs) n = (run ≡ run_behind index k run.frames) × (0 < run.frames) × Cover index (k + run.frames) runs n
 
 -- how many runs are decoded before their output is written
 abbrev pub runs_per_wave : ℕ

@@ -1,6 +1,5 @@
 //! The index of a file's frames.
-ghost use Rattle.std.specs.Prelude.{◌≡◌, ◌<◌, IfOk, length, slice_get};
-ghost use Rattle.jl_rows.specs.Files.{HasShortFrames};
+ghost use Rattle.std.specs.Prelude.{◌≡◌, ◌+◌, ◌<◌, ◌≤◌, ◌^◌, IfOk, length, slice_get};
 ghost use Rattle.jl_frames.specs.Index.{IsIndex, AreFit, end_of};
 
 use jl_base::{Fault, Place, Space, Span};
@@ -8,11 +7,14 @@ use jl_rows::next_frame;
 use std::alloc::{AllocError, Global};
 use std::marker::Model;
 
-/// Where the bodies of a file's frames lie, and the fault of what stands behind them. It takes 16 bytes a frame.
+/// Where the bodies of some frames lie, and the fault of what stands after them. It takes 16 bytes a frame.
 #[derive(Debug, Drop)]
 pub struct Frames {
     bodies: Vec<Span>,
     tail: Option<Fault>,
+    lo: u64,
+    first: u64,
+    ghost numbered: { first ≤ 2 ^ 62 + 1 },
     ghost fit: { AreFit bodies.items },
 }
 
@@ -21,15 +23,44 @@ impl Model for Frames {
 
     ghost Value = { Index };
 
-    ghost view = { λ f. record { bodies = f.bodies.items; tail = f.tail } };
+    ghost view = { λ f. record { bodies = f.bodies.items; tail = f.tail; lo = f.lo; first = f.first } };
 }
 
 impl Frames {
-    /// How many frames the file has.
+    /// How many frames there are.
     pub fn count(&self) -> u64
-        ensures { result ≡ length self.now.bodies }
+        ensures exact { result ≡ length self.now.bodies }
+        ensures few { result < 2 ^ 63 }
     {
         self.bodies.len() as u64
+    }
+
+    /// The number of the first frame, counted from 1; where there is none, the one that it would have.
+    pub fn first(&self) -> u64
+        ensures exact { result ≡ self.now.first }
+        ensures few { result ≤ 2 ^ 62 + 1 }
+    {
+        self.first
+    }
+
+    // The frames of a whole file.
+    fn of_file(bodies: Vec<Span>, tail: Option<Fault>) -> Frames
+        requires { AreFit bodies.items }
+        ensures { result ≡ record { bodies = bodies.items; tail = tail; lo = 0; first = 1 } }
+    {
+        Frames {
+            bodies,
+            tail,
+            lo: 0,
+            first: 1,
+        }
+    }
+
+    // The place of the first frame's length.
+    pub(crate) fn lo(&self) -> u64
+        ensures { result ≡ self.now.lo }
+    {
+        self.lo
     }
 
     /// The body of the frame that has `i` frames before it.
@@ -59,7 +90,6 @@ impl Frames {
 
 /// The index of a file. Takes memory for the frames' places.
 pub fn index(alloc: Global, space: &Space) -> Result<Frames, AllocError>
-    requires { HasShortFrames space.now }
     ensures { IfOk result (IsIndex space.now) }
 {
     let bytes = space.bytes();
@@ -74,14 +104,13 @@ pub fn index(alloc: Global, space: &Space) -> Result<Frames, AllocError>
                 })?;
                 at = end;
             }
-            Ok(None) => return Ok(Frames { bodies, tail: None }),
+            Ok(None) => return Ok(Frames::of_file(bodies, None)),
             Err(kind) => {
                 let place = Place {
                     frame: bodies.len() as u64 + 1,
                     row: 0,
                 };
-                let tail = Some(Fault { place, kind });
-                return Ok(Frames { bodies, tail });
+                return Ok(Frames::of_file(bodies, Some(Fault { place, kind })));
             }
         }
     }

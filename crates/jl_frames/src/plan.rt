@@ -10,7 +10,7 @@ use std::marker::Model;
 /// How many runs are decoded before their output is written.
 const RUNS_PER_WAVE: u64 = 64;
 
-/// A file's frames, cut into runs. It takes 32 bytes a run.
+/// The frames of an index, cut into runs. It takes 32 bytes a run.
 #[derive(Debug, Drop)]
 pub struct Plan {
     runs: Vec<Run>,
@@ -29,20 +29,20 @@ impl Plan {
     /// Runs of `per` frames each, the last one perhaps of fewer. Takes memory for the runs.
     pub fn cut(alloc: Global, frames: &Frames, per: u32) -> Result<Plan, AllocError>
         requires { 0 < per }
-        ensures cut { IfOk result (IsCut frames.now.bodies per) }
-        ensures cover { IfOk result (λ runs. Cover frames.now.bodies 0 runs (length frames.now.bodies)) }
+        ensures cut { IfOk result (IsCut frames.now per) }
+        ensures cover { IfOk result (λ runs. Cover frames.now 0 runs (length frames.now.bodies)) }
     {
         let mut runs = Vec::new(alloc);
         let count = frames.count();
         let mut before = 0;
-        let mut lo = 0;
+        let mut lo = frames.lo();
         'by_run: while before < count {
             let n = u64::from(per).min(count - before);
             let hi = frames.end(before + n - 1);
             runs.push(Run {
                 lo,
                 hi,
-                first_frame: before + 1,
+                first_frame: frames.first() + before,
                 frames: n,
             })?;
             before += n;

@@ -17,7 +17,6 @@ fn filled(alloc: Global, empty: usize, last: &[u8]) -> Result<Space, AllocError>
     Ok(space)
 }
 
-#[tactic(auto, using(jl_rows::proofs::FileLaws::short_file))]
 fn indexed(rt: &impl Abort, alloc: Global, space: &Space) -> Result<Frames, AllocError> {
     assert!(rt; space.bytes().len() < 100);
     index(alloc, space)

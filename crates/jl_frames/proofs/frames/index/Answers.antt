@@ -15,10 +15,11 @@ pub returns-in-Ok-None : goal.returns-in-Ok-None
 returns-in-Ok-None c =
     let said = rw c.in-Ok-None.field-0-is at c.in-Ok-None.ensures.exact in
     let ended = rw c.bytes-bytes.ensures.all at said in
-    indexed_whole c.args.space.now c.by_frame.bodies.items c.by_frame.at c.by_frame.invariant None (frames_at_end c.args.space.now c.by_frame.at (length c.args.space.now) ended)
+    rw c.of_file.ensures
+    (indexed_whole c.args.space.now c.by_frame.bodies.items c.by_frame.at c.by_frame.invariant None (frames_at_end c.args.space.now c.by_frame.at (length c.args.space.now) ended))
 
-pub invariant_of-result : goal.invariant_of-result
-invariant_of-result c = (are_fit c.args.space.now 0 c.by_frame.bodies.items c.by_frame.at c.bytes-bytes.ensures.fits c.by_frame.invariant.places, tt)
+pub of_file-requires : goal.of_file-requires
+of_file-requires c = are_fit c.args.space.now 0 c.by_frame.bodies.items c.by_frame.at c.bytes-bytes.ensures.fits c.by_frame.invariant.places
 
-pub invariant_of-result-in-Err : goal.invariant_of-result-in-Err
-invariant_of-result-in-Err c = (are_fit c.args.space.now 0 c.by_frame.bodies.items c.by_frame.at c.bytes-bytes.ensures.fits c.by_frame.invariant.places, tt)
+pub of_file-requires-in-Err : goal.of_file-requires-in-Err
+of_file-requires-in-Err c = are_fit c.args.space.now 0 c.by_frame.bodies.items c.by_frame.at c.bytes-bytes.ensures.fits c.by_frame.invariant.places

@@ -50,7 +50,7 @@ start bytes options = record {
   datatypes = 0;
 }
 
-pub all_from_start : (file : List ℕ) → with_all (start (length file) (options_in (head file))) (frames file).items (all_rows file).items ≡ surveyed file
+pub all_from_start : (file : List ℕ) → with_all (start (length file) (options_in (head false file))) (frames file).items (all_rows file).items ≡ surveyed file
 unfolding surveyed
 all_from_start file = simp zero-add
 

@@ -1,7 +1,6 @@
 mod WorkedRows
 pub mod CountLaws
 pub mod Appending
-pub mod ShortFiles
 pub mod MetadataLaws
 pub mod WalkLaws
 pub mod SurveyLaws

@@ -1,5 +1,5 @@
 -- What a survey comes to, from place to place of a file.
-use Rattle.std.proofs.Common.{◌≡◌, ℕ, ◌+◌, List, [], length, slice_range, Option, Some, None, Ok, Err, refl, ap, sym, ◌∙◌}
+use Rattle.std.proofs.Common.{◌≡◌, ℕ, ◌+◌, List, [], length, slice_range, Option, Some, None, Ok, Err, refl, ap, sym, ◌∙◌, false}
 use Rattle.jl_base.specs.Results.{Reading, joined, with_front}
 use Rattle.jl_base.specs.declared.kind.Kind.{Kind}
 use Rattle.jl_base.specs.declared.place.Fault.{Fault}
@@ -81,15 +81,15 @@ module _ (file : List ℕ) (s : Survey) where
   good_head (Head.First o place) end good = refl
   good_head (Head.Bad fault) end good = absurd (good fault refl)
 
-  pub begins : ((fault : Fault) → head file ≡ Head.Bad fault → ⊥) → survey_seen file s ≡ start (length file) (options_in (head file)) → survey file ≡ at_frame file s 1 0
+  pub begins : ((fault : Fault) → head false file ≡ Head.Bad fault → ⊥) → survey_seen file s ≡ start (length file) (options_in (head false file)) → survey file ≡ at_frame file s 1 0
   unfolding survey wire_fault
   begins good fresh =
       let all = whole_range file (length file) refl in
-      ap (λ (fault : Option Fault). unless fault (surveyed file)) (good_head (head file) (all_rows file).fault good)
+      ap (λ (fault : Option Fault). unless fault (surveyed file)) (good_head (head false file) (all_rows file).fault good)
       ∙ ap (unless (all_rows file).fault) (sym (all_from_start file))
       ∙ ap (λ (t : Surveyed). outlook t (frames file).items (all_rows file)) (sym fresh)
       ∙ ap (λ (bytes : List ℕ). outlook (survey_seen file s) (frames bytes).items (rows_on 1 (frames bytes))) (sym all)
 
-  pub bad_head : (fault : Fault) → head file ≡ Head.Bad fault → survey file ≡ Err fault
+  pub bad_head : (fault : Fault) → head false file ≡ Head.Bad fault → survey file ≡ Err fault
   unfolding survey wire_fault
   bad_head fault e = ap (λ (h : Head). unless (fault_under h (all_rows file).fault) (surveyed file)) e

@@ -27,7 +27,7 @@ numbers_of_one_triple : survey one_triple ≡ Ok (record {
   bytes = 36;
   frames = 1;
   metadata = 0;
-  options = Some (record { stream_name = []; physical = 1; generalized = false; star = false; names = 8; prefixes = 8; datatypes = 8; logical = 0; version = 1 });
+  options = Some (record { stream_name = []; physical = 1; generalized = false; star = false; names = 8; prefixes = 8; datatypes = 8; logical = 0; version = 1; strict = false });
   option_rows = 1;
   triples = 1;
   quads = 0;
@@ -54,7 +54,7 @@ unresolved : survey (0x16 ∷ 0x0A ∷ 0x0C ∷ 0x0A ∷ 0x0A ∷ 0x10 ∷ 0x01 
   bytes = 23;
   frames = 1;
   metadata = 0;
-  options = Some (record { stream_name = []; physical = 1; generalized = false; star = false; names = 8; prefixes = 8; datatypes = 8; logical = 0; version = 1 });
+  options = Some (record { stream_name = []; physical = 1; generalized = false; star = false; names = 8; prefixes = 8; datatypes = 8; logical = 0; version = 1; strict = false });
   option_rows = 1;
   triples = 1;
   quads = 0;

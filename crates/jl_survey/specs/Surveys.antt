@@ -73,7 +73,7 @@ fault_under (Head.Bad fault) behind = Some fault
 fault_under _ behind = behind
 
 unfoldable pub wire_fault : List ℕ → Option Fault
-wire_fault file = fault_under (head file) (all_rows file).fault
+wire_fault file = fault_under (head false file) (all_rows file).fault
 
 -- the options of the first row; a file without rows has none
 abbrev pub options_in : Head → Option StreamOptions
@@ -101,7 +101,7 @@ surveyed file = record {
   bytes = length file;
   frames = length (frames file).items;
   metadata = metadata_of (frames file).items;
-  options = options_in (head file);
+  options = options_in (head false file);
   option_rows = rows_that is_options (all_rows file).items;
   triples = rows_that is_triple (all_rows file).items;
   quads = rows_that is_quad (all_rows file).items;

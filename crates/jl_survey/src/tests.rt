@@ -15,7 +15,6 @@ const ONE_TRIPLE: [u8; 36] = [
 ];
 
 // What `inspect` says of the file of these pieces: its report, or the line of its fault.
-#[tactic(auto, using(crate::proofs::ShortFiles::short_test))]
 fn told(rt: &impl Abort, alloc: Global, pieces: &[&[u8]]) -> Result<Text, Fail> {
     let mut space = Space::new(alloc);
     for piece in pieces {

@@ -1,7 +1,7 @@
 //! The walk over a file's frames and rows, which resolves nothing.
 ghost use Rattle.std.specs.Prelude.{◌≡◌, ◌+◌, ◌-◌, ◌<◌, ◌≤◌, ◌^◌, IfOk, IfSome, OnOk, length, slice_range};
 ghost use Rattle.jl_base.specs.Results.{Gives};
-ghost use Rattle.jl_rows.specs.Files.{HasShortFrames, fault_at};
+ghost use Rattle.jl_rows.specs.Files.{fault_at};
 ghost use Rattle.jl_survey.specs.Surveys as spec;
 ghost use Rattle.jl_survey.specs.Counting.{AreFew, Begins, ComesOn, ComesToFrame, HaveAllPassed, at_frame, at_row, survey_seen, with_frame};
 
@@ -23,7 +23,6 @@ fn malformed(frame: u64, row: u32, kind: Kind) -> Fault
 impl Survey {
     // The survey of a file at its start.
     fn begun(bytes: &[u8]) -> Result<Survey, Fault>
-        requires { HasShortFrames bytes.now }
         ensures { Begins bytes.now result }
     {
         match head_at(bytes) {
@@ -79,13 +78,11 @@ impl Survey {
     // The frame of a number at a place of the file: the place behind it, or None at the file's end.
     fn frame(&mut self, bytes: &[u8], at: usize, number: u64) -> Result<Option<usize>, Fault>
         requires start { at ≤ length bytes.now }
-        requires short { HasShortFrames (slice_range bytes.now at (length bytes.now)) }
         requires few { AreFew at self.old }
         requires frames { self.old.frames ≤ at }
         requires metadata { self.old.metadata ≤ at }
         ensures comes { ComesToFrame bytes.now self.old number at self.new result }
         ensures within { IfOk result (λ found. IfSome found (λ next. (at < next) × (next ≤ length bytes.now))) }
-        ensures short { IfOk result (λ found. IfSome found (λ next. HasShortFrames (slice_range bytes.now next (length bytes.now)))) }
         ensures few { IfOk result (λ found. IfSome found (λ next. AreFew next self.new)) }
         ensures frames { IfOk result (λ found. IfSome found (λ next. self.new.frames ≤ next)) }
         ensures metadata { IfOk result (λ found. IfSome found (λ next. self.new.metadata ≤ next)) }
@@ -103,7 +100,6 @@ impl Survey {
 
     // All frames of the file.
     fn file(&mut self, bytes: &[u8]) -> Result<(), Fault>
-        requires short { HasShortFrames bytes.now }
         requires few { AreFew 0 self.old }
         requires frames { self.old.frames ≡ 0 }
         requires metadata { self.old.metadata ≡ 0 }
@@ -121,7 +117,6 @@ impl Survey {
 }
 
 fn survey_of(bytes: &[u8]) -> Result<Survey, Fault>
-    requires { HasShortFrames bytes.now }
     ensures exact { Gives (survey_seen bytes.now) result (spec.survey bytes.now) }
     ensures passed { IfOk result (λ s. HaveAllPassed bytes.now s.options) }
 {
@@ -133,7 +128,6 @@ fn survey_of(bytes: &[u8]) -> Result<Survey, Fault>
 /// What there is in a file of these bytes. Rows are read and not resolved, so that a reference to no entry is no fault,
 /// nor are options that differ from the first ones. Takes no memory.
 pub fn survey(space: &Space) -> Result<Survey, Fault>
-    requires { HasShortFrames space.now }
     ensures exact { Gives (survey_seen space.now) result (spec.survey space.now) }
     ensures passed { IfOk result (λ s. HaveAllPassed space.now s.options) }
 {

@@ -1,5 +1,4 @@
-use Rattle.std.proofs.Common.{◌≡◌, ◌+◌, ◌-◌, ◌≤◌, length, slice_range}
-use Rattle.jl_rows.specs.Files.{HasShortFrames}
+use Rattle.std.proofs.Common.{◌≡◌, ◌+◌, ◌-◌, ◌≤◌, length}
 use Rattle.jl_survey.specs.Counting.{AreFew, at_frame}
 use Rattle.jl_survey.proofs.numbers.Survey.file.Given as goal
 
@@ -8,7 +7,6 @@ abbrev pub invariant-by_frame : goal.invariant-by_frame
 invariant-by_frame l = record {
   inside : l.place ≤ length l.bytes;
   counted : l.number ≤ l.place + 1;
-  short : HasShortFrames (slice_range l.bytes l.place (length l.bytes));
   few : AreFew l.place l.self;
   frames : l.self.frames ≤ l.place;
   metadata : l.self.metadata ≤ l.place;

@@ -1,0 +1,5 @@
+pub mod Jobs
+pub mod Numbers
+pub mod Ranges
+pub mod Table
+pub mod WorkedWords

@@ -1,0 +1,68 @@
+-- Words worked by hand.
+use Rattle.std.specs.Prelude.{◌≡◌, ℕ, Bool, true, false, List, [], ◌∷◌, Some, None, is_none, codes}
+use Rattle.std.specs.List.{list_all}
+use Rattle.jl_words.specs.declared.command.Command.{Command}
+use Rattle.jl_words.specs.declared.command.Command.TheVariants.{Nquads, Validate, Inspect}
+use Rattle.jl_words.specs.declared.command.Job.{Job}
+use Rattle.jl_words.specs.Jobs.{job_of}
+
+-- what no command takes
+abbrev pub none : List (List (List ℕ))
+none =
+    []
+    ∷ (codes "" ∷ codes "f" ∷ [])
+    ∷ (codes "wave" ∷ codes "f" ∷ [])
+    ∷ (codes "split" ∷ codes "--items=2" ∷ codes "f" ∷ [])
+    ∷ (codes "nquads" ∷ [])
+    ∷ (codes "nquads" ∷ codes "" ∷ [])
+    ∷ (codes "nquads" ∷ codes "a" ∷ codes "b" ∷ [])
+    ∷ (codes "nquads" ∷ codes "f" ∷ codes "--strict=1" ∷ [])
+    ∷ (codes "nquads" ∷ codes "--strict=1" ∷ [])
+    ∷ (codes "nquads" ∷ codes "--strict=2" ∷ codes "f" ∷ [])
+    ∷ (codes "nquads" ∷ codes "--strict=01" ∷ codes "f" ∷ [])
+    ∷ (codes "nquads" ∷ codes "--strict=+1" ∷ codes "f" ∷ [])
+    ∷ (codes "nquads" ∷ codes "--strict=" ∷ codes "f" ∷ [])
+    ∷ (codes "nquads" ∷ codes "--strict" ∷ codes "f" ∷ [])
+    ∷ (codes "nquads" ∷ codes "--strict=1" ∷ codes "--strict=1" ∷ codes "f" ∷ [])
+    ∷ (codes "nquads" ∷ codes "--strict=1" ∷ codes "--strict=0" ∷ codes "f" ∷ [])
+    ∷ (codes "nquads" ∷ codes "--workers=0" ∷ codes "f" ∷ [])
+    ∷ (codes "nquads" ∷ codes "--run=07" ∷ codes "f" ∷ [])
+    ∷ (codes "nquads" ∷ codes "--run=1" ∷ codes "--run=1" ∷ codes "f" ∷ [])
+    ∷ (codes "nquads" ∷ codes "--" ∷ [])
+    ∷ (codes "nquads" ∷ codes "--" ∷ codes "" ∷ [])
+    ∷ (codes "nquads" ∷ codes "--" ∷ codes "--" ∷ codes "f" ∷ [])
+    ∷ (codes "inspect" ∷ codes "--strict=0" ∷ codes "f" ∷ [])
+    ∷ (codes "inspect" ∷ codes "--run=1" ∷ codes "f" ∷ [])
+    ∷ []
+
+abbrev pub NoJobs : Type 0
+NoJobs = list_all (λ words. is_none (job_of words)) none ≡ true
+
+-- a job of what stands in no word
+abbrev pub plain : Command → Bool → ℕ → Job
+plain command strict first = record {
+  command = command;
+  workers = 4;
+  run = 16;
+  items = 0;
+  per = 256;
+  number = 0;
+  strict = strict;
+  out = None;
+  first = first;
+}
+
+abbrev pub OneFile : Type 0
+OneFile = (job_of (codes "nquads" ∷ codes "f" ∷ []) ≡ Some (plain Nquads false 1))
+    × (job_of (codes "validate" ∷ codes "f" ∷ []) ≡ Some (plain Validate false 1))
+    × (job_of (codes "inspect" ∷ codes "-f" ∷ []) ≡ Some (plain Inspect false 1))
+
+abbrev pub StrictOnes : Type 0
+StrictOnes = (job_of (codes "nquads" ∷ codes "--strict=1" ∷ codes "f" ∷ []) ≡ Some (plain Nquads true 2))
+    × (job_of (codes "validate" ∷ codes "--strict=0" ∷ codes "f" ∷ []) ≡ Some (plain Validate false 2))
+
+-- a word `--` is dropped, and after it each word is a file
+abbrev pub AfterOptions : Type 0
+AfterOptions = (job_of (codes "nquads" ∷ codes "--" ∷ codes "--f" ∷ []) ≡ Some (plain Nquads false 2))
+    × (job_of (codes "inspect" ∷ codes "--" ∷ codes "--" ∷ []) ≡ Some (plain Inspect false 2))
+    × (job_of (codes "validate" ∷ codes "--strict=1" ∷ codes "--" ∷ codes "--strict=1" ∷ []) ≡ Some (plain Validate true 3))

@@ -1,10 +1,12 @@
 -- Words worked by hand.
 use Rattle.std.specs.Prelude.{◌≡◌, ℕ, Bool, true, false, List, [], ◌∷◌, Some, None, is_none, codes}
-use Rattle.std.specs.List.{list_all}
+use Rattle.std.specs.List.{list_all, list_any}
 use Rattle.jl_words.specs.declared.command.Command.{Command}
 use Rattle.jl_words.specs.declared.command.Command.TheVariants.{Nquads, Validate, Inspect}
 use Rattle.jl_words.specs.declared.command.Job.{Job}
-use Rattle.jl_words.specs.Jobs.{job_of}
+use Rattle.jl_words.specs.declared.table.Setting.TheVariants.{Workers, Run, Per, Number, Out}
+use Rattle.jl_words.specs.Table.{Taken, taken}
+use Rattle.jl_words.specs.Jobs.{are_options, number_of, job_of}
 
 -- what no command takes
 abbrev pub none : List (List (List ℕ))
@@ -66,3 +68,44 @@ abbrev pub AfterOptions : Type 0
 AfterOptions = (job_of (codes "nquads" ∷ codes "--" ∷ codes "--f" ∷ []) ≡ Some (plain Nquads false 2))
     × (job_of (codes "inspect" ∷ codes "--" ∷ codes "--" ∷ []) ≡ Some (plain Inspect false 2))
     × (job_of (codes "validate" ∷ codes "--strict=1" ∷ codes "--" ∷ codes "--strict=1" ∷ []) ≡ Some (plain Validate true 3))
+
+-- a command with more options, of which one has to be given
+abbrev pub made : Taken
+made = taken (codes "made") (Workers ∷ Run ∷ Number ∷ Out ∷ []) (Out ∷ []) 1 1
+
+abbrev pub MadeTakes : Type 0
+MadeTakes = list_all
+    (are_options made)
+    (
+    (codes "--out=x" ∷ [])
+    ∷ (codes "--out=a=b" ∷ codes "--workers=64" ∷ [])
+    ∷ (codes "--run=65536" ∷ codes "--out=--" ∷ codes "--workers=1" ∷ [])
+    ∷ (codes "--number=0" ∷ codes "--out=x" ∷ [])
+    ∷ (codes "--number=18446744073709551615" ∷ codes "--out=x" ∷ [])
+    ∷ []
+    ) ≡ true
+
+abbrev pub MadeRefuses : Type 0
+MadeRefuses = list_any
+    (are_options made)
+    (
+    []
+    ∷ (codes "--workers=4" ∷ [])
+    ∷ (codes "--out=" ∷ [])
+    ∷ (codes "--out=x" ∷ codes "--out=x" ∷ [])
+    ∷ (codes "--out=x" ∷ codes "--workers=0" ∷ [])
+    ∷ (codes "--out=x" ∷ codes "--workers=65" ∷ [])
+    ∷ (codes "--out=x" ∷ codes "--run=07" ∷ [])
+    ∷ (codes "--out=x" ∷ codes "--run=+7" ∷ [])
+    ∷ (codes "--out=x" ∷ codes "--run=7 " ∷ [])
+    ∷ (codes "--out=x" ∷ codes "--run=65537" ∷ [])
+    ∷ (codes "--out=x" ∷ codes "--number=18446744073709551616" ∷ [])
+    ∷ (codes "--out=x" ∷ codes "--number=00" ∷ [])
+    ∷ (codes "--out=x" ∷ codes "--strict=1" ∷ [])
+    ∷ (codes "--out=x" ∷ codes "--per=1" ∷ [])
+    ∷ []
+    ) ≡ false
+
+-- what the words give, and what holds where they give nothing
+abbrev pub Numbers : Type 0
+Numbers = (number_of Workers (codes "--run=8" ∷ codes "--workers=12" ∷ []) ≡ 12) × (number_of Workers (codes "--run=8" ∷ []) ≡ 4) × (number_of Run [] ≡ 16) × (number_of Per [] ≡ 256)

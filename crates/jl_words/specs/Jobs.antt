@@ -1,5 +1,5 @@
 -- The job that the words of a command line ask for. The program's name isn't among them.
-use Rattle.std.specs.Prelude.{ℕ, ◌+◌, Bool, false, not, ◌==◌, ◌&&◌, nat_le, List, [], ◌∷◌, length, take, drop, Option, Some, None, is_some, codes, if◌then◌else◌}
+use Rattle.std.specs.Prelude.{ℕ, ◌+◌, ◌≤◌, Bool, false, not, ◌==◌, ◌&&◌, nat_le, List, [], ◌∷◌, length, take, drop, Option, Some, None, is_some, codes, if◌then◌else◌}
 use Rattle.std.specs.Option.{option_map, unwrap_or}
 use Rattle.std.specs.Str.{bytes_eq}
 use Rattle.std.specs.List.{starts_with, list_all, list_any, find, count_by, position}
@@ -117,3 +117,7 @@ job_of (command ∷ words) = asked (command_of command) words
 abbrev pub files_of : List (List ℕ) → Option Job → List (List ℕ)
 files_of words None = []
 files_of words (Some job) = drop job.first words
+
+-- there are as many as the command has files
+abbrev pub IsAsMany : Taken → List (List ℕ) → Type 0
+IsAsMany line files = (line.least ≤ length files) × (length files ≤ line.most)

@@ -1,8 +1,8 @@
 //! The words of a command line.
-ghost use Rattle.std.specs.Prelude.{◌≡◌, ◌<◌, ◌≤◌, ◌==◌, not, length, IfSome};
+ghost use Rattle.std.specs.Prelude.{◌≡◌, ◌<◌, ◌≤◌, ◌==◌, not, length, IfSome, IsTrue};
 ghost use Rattle.std.specs.List.{list_all, position};
 ghost use Rattle.jl_words.specs.Jobs as spec;
-ghost use Rattle.jl_words.specs.Table.{seen};
+ghost use Rattle.jl_words.specs.Table.{line_of, seen};
 
 use crate::options::{are_options, number_of, place_of};
 use crate::table::{COMMANDS, Line, Setting, line_of};
@@ -68,7 +68,8 @@ fn are_named(words: &[Text]) -> bool
 }
 
 fn are_files(line: &Line, words: &[Text]) -> bool
-    ensures { result ≡ spec.are_files (seen line.now) words.now }
+    ensures exact { result ≡ spec.are_files (seen line.now) words.now }
+    ensures number { IsTrue result → (line.now.least ≤ length words.now) × (length words.now ≤ line.now.most) }
 {
     are_named(words) && line.least <= words.len() && words.len() <= line.most
 }
@@ -94,6 +95,7 @@ fn job_with(command: Command, options: &[Text], first: usize) -> Job
 pub fn job(words: &[Text]) -> Option<Job>
     ensures job { result ≡ spec.job_of words.now }
     ensures files { IfSome result (λ job. job.first ≤ length words.now) }
+    ensures number { IfSome result (λ job. spec.IsAsMany (line_of job.command) (spec.files_of words.now (Some job))) }
     ensures run { IfSome result (λ job. 0 < job.run) }
 {
     let (command, words) = words.split_first()?;

@@ -1,5 +1,5 @@
 -- Rows are read back, and so are the rows of a frame.
-use Rattle.std.proofs.Common.{◌≡◌, ℕ, ◌^◌, ◌<◌, List, [], ◌∷◌, ◌++◌, length, slice_set, Option, Some, None, Ok, true, false, refl, ap, ◌∙◌, sym, subst, append-nil, arith}
+use Rattle.std.proofs.Common.{◌≡◌, ℕ, ◌^◌, ◌<◌, List, [], ◌∷◌, ◌++◌, length, slice_set, Option, Some, None, Result, Ok, Bool, true, false, refl, ap, ◌∙◌, sym, subst, append-nil, arith}
 use Rattle.jl_base.specs.Results.{Reading, with_front}
 use Rattle.jl_base.specs.declared.kind.Kind.{Kind}
 use Rattle.jl_wire.specs.Fields.{Field, fields}
@@ -52,8 +52,11 @@ options_back o is short =
       number_again o.datatypes is.datatypes,
       number_again o.logical is.logical,
       number_again o.version is.version,
-    ) refl
+    ) (ap with_strict (sym is.not_strict))
   where
+    with_strict : Bool → Result StreamOptions Kind
+    with_strict strict = Ok (record { stream_name = o.stream_name; physical = o.physical; generalized = o.generalized; star = o.star; names = o.names; prefixes = o.prefixes; datatypes = o.datatypes; logical = o.logical; version = o.version; strict = strict })
+
     bit_fits : (b : _) → bit b < 2 ^ 32
     bit_fits true = omega arith
     bit_fits false = omega arith

@@ -21,6 +21,7 @@ said (Term.Bnode label) = Some (Part.Said (Term.Bnode label))
 said (Term.Literal lex e) = Some (Part.Said (Term.Literal lex e))
 said (Term.Nested s p o) = Some (Part.Said (Term.Nested s p o))
 said Term.Default = Some (Part.Said Term.Default)
+said (Term.Refused kind) = Some (Part.Said (Term.Refused kind))
 
 pub said_again : (t : Term) → term (said t) ≡ t
 said_again Term.Unset = refl
@@ -29,6 +30,7 @@ said_again (Term.Bnode label) = refl
 said_again (Term.Literal lex e) = refl
 said_again (Term.Nested s p o) = refl
 said_again Term.Default = refl
+said_again (Term.Refused kind) = refl
 
 pub iri_said : (depth : ℕ) (i : Ids) → AreIds i → length (iri_of i) < 2 ^ 64 → content_said depth Shape.Iri (Content.Bytes (iri_of i)) ≡ Ok (Part.Said (Term.Iri i))
 unfolding content_said
@@ -144,6 +146,7 @@ term_next (Term.Nested s p o) (suc depth) is m n g ps whole qs ks hs at passes f
     bytes_taken (content_said (suc depth)) m ps whole qs (known (n + 3) Shape.Nested g) (message_of Message.Triple (positions s p o)) (Part.Said (Term.Nested s p o)) ks hs passes.reads passes.short at.nested refl free.none
     (nested_said depth s p o (term_next s depth is.0) (term_next p depth is.1) (term_next o depth is.2))
 term_next Term.Default depth is m n g ps whole qs ks hs at passes free = absurd is
+term_next (Term.Refused kind) depth is m n g ps whole qs ks hs at passes free = absurd is
 
 -- the same for a graph, which is the last
 abbrev pub graph_four : ℕ → ℕ → List Known
@@ -165,6 +168,7 @@ graph_next (Term.Bnode label) depth is m n g ps whole qs at passes free =
 graph_next (Term.Literal lex e) depth is m n g ps whole qs at passes free =
     bytes_taken (content_said depth) m ps whole qs (known (n + 3) Shape.Literal g) (literal_of lex e) (Part.Said (Term.Literal lex e)) [] [] passes.reads passes.short at.literal refl free.none (literal_said depth lex e is.0 is.1)
 graph_next (Term.Nested s p o) depth is m n g ps whole qs at passes free = absurd is
+graph_next (Term.Refused kind) depth is m n g ps whole qs at passes free = absurd is
 graph_next Term.Default depth is m n g ps whole qs at passes free =
     bytes_taken (content_said depth) m ps whole qs (known (n + 2) Shape.Default g) (message_of Message.Empty []) (Part.Said Term.Default) [] [] passes.reads passes.short at.default refl free.none (λ _. default_said depth)
 

@@ -1,5 +1,5 @@
 -- Bytes that were written by hand, and their spelling.
-use Rattle.std.proofs.Common.{◌≡◌, List, [], ◌∷◌, ◌++◌, true, refl, codes, Some}
+use Rattle.std.proofs.Common.{◌≡◌, List, [], ◌∷◌, ◌++◌, true, false, refl, codes, Some}
 use Rattle.jl_rows.specs.declared.row.Table.{Table}
 use Rattle.jl_rows.specs.Written.{Ending, Term, Row}
 use Rattle.jl_spell.specs.Varints.{varint_within, varint_of}
@@ -10,7 +10,7 @@ use Rattle.jl_spell.specs.Frames.{body_of, frames_of}
 
 -- TRIPLES, generalized, with triple terms, tables of 4000, 150 and 32 entries, version 2
 abbrev pub triples : Row
-triples = Row.Options (record { stream_name = []; physical = 1; generalized = true; star = true; names = 4000; prefixes = 150; datatypes = 32; logical = 0; version = 2 })
+triples = Row.Options (record { stream_name = []; physical = 1; generalized = true; star = true; names = 4000; prefixes = 150; datatypes = 32; logical = 0; version = 2; strict = false })
 
 pub options_row : row_of triples ≡ 0x0A ∷ 0x10 ∷ 0x10 ∷ 0x01 ∷ 0x18 ∷ 0x01 ∷ 0x20 ∷ 0x01 ∷ 0x48 ∷ 0xA0 ∷ 0x1F ∷ 0x50 ∷ 0x96 ∷ 0x01 ∷ 0x58 ∷ 0x20 ∷ 0x78 ∷ 0x02 ∷ []
 unfolding row_of message_of field_of varint_of varint_within

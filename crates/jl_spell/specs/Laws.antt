@@ -6,7 +6,7 @@ use Rattle.jl_wire.specs.Fields.{fields}
 use Rattle.jl_rows.specs.declared.message.Message.{Message}
 use Rattle.jl_rows.specs.Written.{Row}
 use Rattle.jl_rows.specs.Rows.{row}
-use Rattle.jl_rows.specs.Files.{frames, rows}
+use Rattle.jl_rows.specs.Files.{most_body, frames, rows}
 use Rattle.jl_spell.specs.Varints.{varint_of}
 use Rattle.jl_spell.specs.Fields.{Held, IsHeld, Filled, IsFilled, fields_of, field_read}
 use Rattle.jl_spell.specs.Messages.{Ascend, fields_filled, message_of}
@@ -45,6 +45,6 @@ RowsReadBack = (r : Row) → IsRow r → length (row_of r) < 2 ^ 64 → row (row
 abbrev pub BodiesReadBack : Type 0
 BodiesReadBack = (rs : List Row) → AllByRecursion IsRow rs → length (body_of rs) < 2 ^ 64 → rows (body_of rs) ≡ record { items = rs; fault = None }
 
--- frames are read back, and no fault
+-- frames that aren't too long are read back, and no fault
 abbrev pub FramesReadBack : Type 0
-FramesReadBack = (bodies : List (List ℕ)) → AllByRecursion (λ b. length b < 2 ^ 64) bodies → frames (frames_of bodies) ≡ record { items = bodies; fault = None }
+FramesReadBack = (bodies : List (List ℕ)) → AllByRecursion (λ b. length b ≤ most_body) bodies → frames (frames_of bodies) ≡ record { items = bodies; fault = None }

@@ -1,6 +1,6 @@
 -- Terms and rows as bytes (Jelly RDF serialization, "RdfStreamRow" and the messages in it): what each message's known
 -- fields hold, in the order of its table.
-use Rattle.std.specs.Prelude.{ℕ, zero, suc, ◌^◌, ◌<◌, Bool, true, false, IsTrue, List, [], ◌∷◌, ◌++◌, Option, Some, None}
+use Rattle.std.specs.Prelude.{◌≡◌, ℕ, zero, suc, ◌^◌, ◌<◌, Bool, true, false, IsTrue, List, [], ◌∷◌, ◌++◌, Option, Some, None}
 use Rattle.std.specs.Str.{is_utf8}
 use Rattle.jl_rows.specs.declared.message.Message.{Message}
 use Rattle.jl_rows.specs.declared.row.Table.{Table}
@@ -39,6 +39,7 @@ position (Term.Bnode label) = None ∷ bytes label ∷ None ∷ None ∷ []
 position (Term.Literal lex e) = None ∷ None ∷ bytes (literal_of lex e) ∷ None ∷ []
 position (Term.Nested s p o) = None ∷ None ∷ None ∷ bytes (message_of Message.Triple (position s ++ (position p ++ position o))) ∷ []
 position Term.Default = None ∷ None ∷ None ∷ None ∷ []
+position (Term.Refused kind) = None ∷ None ∷ None ∷ None ∷ []
 
 -- the four of a graph: an IRI, a blank node's label, the default graph, a literal
 abbrev pub graph : Term → List (Option Held)
@@ -97,6 +98,7 @@ IsTerm depth (Term.Literal lex e) = IsText lex × IsEnding e
 IsTerm zero (Term.Nested s p o) = ⊥
 IsTerm (suc depth) (Term.Nested s p o) = IsTerm depth s × IsTerm depth p × IsTerm depth o
 IsTerm depth Term.Default = ⊥
+IsTerm depth (Term.Refused kind) = ⊥
 
 abbrev pub IsGraph : Term → Type 0
 IsGraph Term.Unset = Unit {0}
@@ -105,6 +107,7 @@ IsGraph (Term.Bnode label) = IsText label
 IsGraph (Term.Literal lex e) = IsText lex × IsEnding e
 IsGraph (Term.Nested s p o) = ⊥
 IsGraph Term.Default = Unit {0}
+IsGraph (Term.Refused kind) = ⊥
 
 pub record AreOptions (o : StreamOptions) : Type 0 where
   pub stream_name : IsText o.stream_name
@@ -114,6 +117,8 @@ pub record AreOptions (o : StreamOptions) : Type 0 where
   pub datatypes : o.datatypes < 2 ^ 32
   pub logical : o.logical < 2 ^ 32
   pub version : o.version < 2 ^ 32
+  -- which no message says
+  pub not_strict : o.strict ≡ false
 
 abbrev pub AreMaybeIds : Option Ids → Type 0
 AreMaybeIds None = Unit {0}

@@ -28,7 +28,7 @@ pub fn bodies_read_back()
     ensures { BodiesReadBack }
 {}
 
-/// The bodies of frames are read back, in their order and without a fault.
+/// The bodies of frames, of at most 2^27 bytes each, are read back, in their order and without a fault.
 pub fn frames_read_back()
     ensures { FramesReadBack }
 {}

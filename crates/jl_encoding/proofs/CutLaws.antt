@@ -7,7 +7,7 @@ use Rattle.std.proofs.lemmas.List.Concat.{flat_map-append}
 use Rattle.jl_base.specs.Results.{Reading, joined, with_front}
 use Rattle.jl_base.specs.declared.place.Fault.{Fault}
 use Rattle.jl_rows.specs.Written.{Row}
-use Rattle.jl_rows.specs.Files.{Placed, place_at, placed, frame_rows, rows_from}
+use Rattle.jl_rows.specs.Files.{Placed, most_body, place_at, placed, frame_rows, rows_from}
 use Rattle.jl_spell.specs.Fields.{Bytes, field_of}
 use Rattle.jl_spell.specs.Rows.{IsRow, row_of}
 use Rattle.jl_spell.specs.Frames.{body_of}
@@ -58,7 +58,7 @@ framed_all form per (rs ∷ rss) = first_cut per (first_row form ∷ []) rs rss
 -- a frame that can be read back
 pub record IsFrame (rs : List Row) : Type 0 where
   pub rows : AreRows rs
-  pub short : length (body_of rs) < 2 ^ 64
+  pub short : length (body_of rs) < most_body
 
 -- an item's rows take no more than 2^26 bytes in their frame
 abbrev pub IsNarrow : List Row → Type 0
@@ -90,7 +90,7 @@ cut_frames per count under_way (rs ∷ rss) are small good =
         → AllByRecursion IsFrame (if b then ((under_way ++ rs) ∷ cut per 0 [] rss) else cut per (count + 1) (under_way ++ rs) rss)
     by_end true e frame ended on = (frame, ended)
     by_end false e frame ended on =
-        let open_yet : nat_lt (length (body_of (under_way ++ rs))) (2 ^ 24) ≡ true = not-false (nat_lt (length (body_of (under_way ++ rs))) (2 ^ 24)) (or_parts (nat_eq (count + 1) per) (not (nat_lt (length (body_of (under_way ++ rs))) (2 ^ 24))) e).1 in
+        let open_yet : nat_lt (length (body_of (under_way ++ rs))) (2 ^ 24) ≡ true = not-false (nat_lt (length (body_of (under_way ++ rs))) (2 ^ 24)) (or_parts _ (not (nat_lt (length (body_of (under_way ++ rs))) (2 ^ 24))) e).1 in
         on (ltb-true (length (body_of (under_way ++ rs))) (2 ^ 24) open_yet)
 
 pub framed_frames : (form : Form) (per : ℕ) (rss : List (List Row)) → IsRow (first_row form) → length (body_of (first_row form ∷ [])) < 2 ^ 24 → AllByRecursion IsGood rss → AllByRecursion IsFrame (framed form per rss)
@@ -114,7 +114,7 @@ placed_places frame before (r ∷ rs) =
 in_frame : (frame : ℕ) (rs : List Row) → IsFrame rs → Places (frame_rows frame (body_of rs)) rs
 in_frame frame rs is =
     let made = placed_places frame 0 rs in
-    record { items = made.items; are = ap (λ (R : Reading Row _). placed frame 0 R.items R.fault) (body_back rs is.rows is.short) ∙ made.are; rows = made.rows }
+    record { items = made.items; are = ap (λ (R : Reading Row _). placed frame 0 R.items R.fault) (body_back rs is.rows (let short = is.short in omega (arith, short))) ∙ made.are; rows = made.rows }
 
 pub frames_places : (frame : ℕ) (rss : List (List Row)) → AllByRecursion IsFrame rss → Places (rows_from frame (map body_of rss) None) (all_of rss)
 unfolding rows_from

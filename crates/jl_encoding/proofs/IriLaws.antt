@@ -68,7 +68,7 @@ both_put : (o : StreamOptions) (H : History) (text : List ℕ) (st : State) (p n
     → PutsIri o H text st (with_iri (ids_of st.seen p.0 n.0) n.1) (ids_of st.seen p.0 n.0)
 both_put o H text st p n prefix name =
     let i = ids_of st.seen p.0 n.0 in
-    let relabelled : Step o H n.1 (with_iri i n.1) = record { holds = λ h. h; keeps = λ K h. h; quiet = refl; terms = λ x. refl; ids = refl } in
+    let relabelled : Step o H n.1 (with_iri i n.1) = record { holds = λ h. h; keeps = λ K h. h; quiet = λ strict. refl; terms = λ x. refl; ids = refl } in
     record {
       step = steps prefix.step (steps name.step relabelled);
       seen = ap (λ (seen : List Ids). i ∷ seen) (name.seen ∙ prefix.seen);

@@ -12,26 +12,30 @@ use Rattle.jl_rows.specs.Decoder.{is_triples, is_quads, meaning}
 use Rattle.jl_rows.proofs.Binding.{bound}
 use Rattle.jl_encoding.specs.Slots.{State}
 use Rattle.jl_encoding.specs.Terms.{put_iri, put_at}
-use Rattle.jl_encoding.specs.Items.{start, item_rows, with_items, Fits, ItemHasTags, stated_by, term_of, ItemsAreStated, LastTermsAreTheItems}
+use Rattle.jl_encoding.specs.Items.{start, item_rows, with_items, Fits, ItemHasTags, stated_by, under, AllowsAll, term_of, ItemsAreStated, LastTermsAreTheItems}
 use Rattle.jl_encoding.proofs.SlotLaws.{some_or_ok}
 use Rattle.jl_encoding.proofs.Claims.{Holds, Step, steps}
+use Rattle.jl_encoding.proofs.GuardLaws.{means_kept}
 use Rattle.jl_encoding.proofs.IriLaws.{puts_iri}
 use Rattle.jl_encoding.proofs.TermLaws.{taken_at, PutsAt, puts_at}
 
-triple_means : (o : StreamOptions) (K : History) (a b c : Term) (s p ob : Value) → is_triples o ≡ true → taken_at Position.Subject K (seen_in K) a ≡ Ok s → taken_at Position.Predicate K (seen_after a (seen_in K)) b ≡ Ok p
-    → taken_at Position.Object K (seen_after b (seen_after a (seen_in K))) c ≡ Ok ob → meaning o (Row.Triple a b c) K ≡ Ok (Item.Triple s p ob ∷ [])
-triple_means o K a b c s p ob fits first second third =
+triple_means : (strict : Bool) (o : StreamOptions) → (strict ≡ true → AllowsAll o) → (K : History) (a b c : Term) (s p ob : Value) → is_triples o ≡ true → taken_at Position.Subject K (seen_in K) a ≡ Ok s → taken_at Position.Predicate K (seen_after a (seen_in K)) b ≡ Ok p
+    → taken_at Position.Object K (seen_after b (seen_after a (seen_in K))) c ≡ Ok ob → meaning (under strict o) (Row.Triple a b c) K ≡ Ok (Item.Triple s p ob ∷ [])
+triple_means strict o allows K a b c s p ob fits first second third =
     let physical : o.physical ≡ 1 = eqb-true o.physical 1 fits in
-    rw (physical, first, second, third) refl
+    means_kept strict o allows (Row.Triple a b c) K (Item.Triple s p ob ∷ []) (rw (physical, first, second, third) refl)
 
-quad_means : (o : StreamOptions) (K : History) (a b c d : Term) (s p ob g : Value) → is_quads o ≡ true → taken_at Position.Subject K (seen_in K) a ≡ Ok s → taken_at Position.Predicate K (seen_after a (seen_in K)) b ≡ Ok p
-    → taken_at Position.Object K (seen_after b (seen_after a (seen_in K))) c ≡ Ok ob → taken_at Position.Graph K (seen_after c (seen_after b (seen_after a (seen_in K)))) d ≡ Ok g → meaning o (Row.Quad a b c d) K ≡ Ok (Item.Quad s p ob g ∷ [])
-quad_means o K a b c d s p ob g fits first second third fourth =
+quad_means : (strict : Bool) (o : StreamOptions) → (strict ≡ true → AllowsAll o) → (K : History) (a b c d : Term) (s p ob g : Value) → is_quads o ≡ true → taken_at Position.Subject K (seen_in K) a ≡ Ok s → taken_at Position.Predicate K (seen_after a (seen_in K)) b ≡ Ok p
+    → taken_at Position.Object K (seen_after b (seen_after a (seen_in K))) c ≡ Ok ob → taken_at Position.Graph K (seen_after c (seen_after b (seen_after a (seen_in K)))) d ≡ Ok g → meaning (under strict o) (Row.Quad a b c d) K ≡ Ok (Item.Quad s p ob g ∷ [])
+quad_means strict o allows K a b c d s p ob g fits first second third fourth =
     let physical : o.physical ≡ 2 = eqb-true o.physical 2 fits in
-    rw (physical, first, second, third, fourth) refl
+    means_kept strict o allows (Row.Quad a b c d) K (Item.Quad s p ob g ∷ []) (rw (physical, first, second, third, fourth) refl)
 
-namespace_means : (o : StreamOptions) (K : History) (name iri : List ℕ) (i : Ids) → iri_text (slots_of K) (i ∷ seen_in K) ≡ Ok iri → meaning o (Row.Namespace name (Some i)) K ≡ Ok (Item.Namespace name iri ∷ [])
-namespace_means o K name iri i said = rw said refl
+namespace_means : (strict : Bool) (o : StreamOptions) → (strict ≡ true → AllowsAll o) → (K : History) (name iri : List ℕ) (i : Ids) → iri_text (slots_of K) (i ∷ seen_in K) ≡ Ok iri → meaning (under strict o) (Row.Namespace name (Some i)) K ≡ Ok (Item.Namespace name iri ∷ [])
+namespace_means true o allows K name iri i said =
+    let later = (allows refl).later in
+    means_kept true o allows (Row.Namespace name (Some i)) K (Item.Namespace name iri ∷ []) (rw (later, said) refl)
+namespace_means false o allows K name iri i said = rw said refl
 
 -- a row that states one item, behind rows that state some
 stated_with : (o : StreamOptions) (K : History) (r : Row) (xs ys : List Item) → stated_by o K ≡ Ok xs → meaning o r K ≡ Ok ys → stated_by o (r ∷ K) ≡ Ok (xs ++ ys)
@@ -44,7 +48,7 @@ at o H K x v st st' t seen put last holds same = subst (λ (ids : List Ids). tak
 
 -- A row's terms as the decoder takes them, behind the item's entries.
 pub record Behind (o : StreamOptions) (H : History) (entries : List Row) : Type 0 where
-  pub quiet : stated_by o (entries ++ H) ≡ stated_by o H
+  pub quiet : (strict : Bool) → stated_by (under strict o) (entries ++ H) ≡ stated_by (under strict o) H
   pub terms : (x : Position) → last_term x (entries ++ H) ≡ last_term x H
 
 pub record TripleRows (o : StreamOptions) (H : History) (s p ob : Value) (rs : List Row) : Type 0 where
@@ -165,22 +169,22 @@ module _ (o : StreamOptions) (H : History) where
         says = subst (λ (ids : List Ids). iri_text (slots_of K) (i.value.0 ∷ ids) ≡ Ok iri) (sym put.step.ids) (put.says K (put.step.holds tt));
       }
 
-item_stated : (o : StreamOptions) (H : History) (xs : List Item) → stated_by o H ≡ Ok xs → (i : Item) (rs : List Row) → Fits o i → ItemHasTags i → item_rows o H i ≡ Ok rs → stated_by o (rs ++ H) ≡ Ok (xs ++ (i ∷ []))
-item_stated o H xs before (Item.Triple s p ob) rs fits tags e =
+item_stated : (strict : Bool) (o : StreamOptions) → (strict ≡ true → AllowsAll o) → (H : History) (xs : List Item) → stated_by (under strict o) H ≡ Ok xs → (i : Item) (rs : List Row) → Fits o i → ItemHasTags i → item_rows o H i ≡ Ok rs → stated_by (under strict o) (rs ++ H) ≡ Ok (xs ++ (i ∷ []))
+item_stated strict o allows H xs before (Item.Triple s p ob) rs fits tags e =
     let t = triple_put o H s p ob rs tags e in
     let K = t.entries ++ H in
-    subst (λ (rows : List Row). stated_by o (rows ++ H) ≡ Ok (xs ++ (Item.Triple s p ob ∷ []))) t.are
-    (stated_with o K (Row.Triple t.a t.b t.c) xs (Item.Triple s p ob ∷ []) (t.behind.quiet ∙ before) (triple_means o K t.a t.b t.c s p ob fits t.subject t.predicate t.object))
-item_stated o H xs before (Item.Quad s p ob g) rs fits tags e =
+    subst (λ (rows : List Row). stated_by (under strict o) (rows ++ H) ≡ Ok (xs ++ (Item.Triple s p ob ∷ []))) t.are
+    (stated_with (under strict o) K (Row.Triple t.a t.b t.c) xs (Item.Triple s p ob ∷ []) (t.behind.quiet strict ∙ before) (triple_means strict o allows K t.a t.b t.c s p ob fits t.subject t.predicate t.object))
+item_stated strict o allows H xs before (Item.Quad s p ob g) rs fits tags e =
     let t = quad_put o H s p ob g rs tags e in
     let K = t.entries ++ H in
-    subst (λ (rows : List Row). stated_by o (rows ++ H) ≡ Ok (xs ++ (Item.Quad s p ob g ∷ []))) t.are
-    (stated_with o K (Row.Quad t.a t.b t.c t.d) xs (Item.Quad s p ob g ∷ []) (t.behind.quiet ∙ before) (quad_means o K t.a t.b t.c t.d s p ob g fits t.subject t.predicate t.object t.graph))
-item_stated o H xs before (Item.Namespace name iri) rs fits tags e =
+    subst (λ (rows : List Row). stated_by (under strict o) (rows ++ H) ≡ Ok (xs ++ (Item.Quad s p ob g ∷ []))) t.are
+    (stated_with (under strict o) K (Row.Quad t.a t.b t.c t.d) xs (Item.Quad s p ob g ∷ []) (t.behind.quiet strict ∙ before) (quad_means strict o allows K t.a t.b t.c t.d s p ob g fits t.subject t.predicate t.object t.graph))
+item_stated strict o allows H xs before (Item.Namespace name iri) rs fits tags e =
     let t = namespace_put o H name iri rs e in
     let K = t.entries ++ H in
-    subst (λ (rows : List Row). stated_by o (rows ++ H) ≡ Ok (xs ++ (Item.Namespace name iri ∷ []))) t.are
-    (stated_with o K (Row.Namespace name (Some t.i)) xs (Item.Namespace name iri ∷ []) (t.behind.quiet ∙ before) (namespace_means o K name iri t.i t.says))
+    subst (λ (rows : List Row). stated_by (under strict o) (rows ++ H) ≡ Ok (xs ++ (Item.Namespace name iri ∷ []))) t.are
+    (stated_with (under strict o) K (Row.Namespace name (Some t.i)) xs (Item.Namespace name iri ∷ []) (t.behind.quiet strict ∙ before) (namespace_means strict o allows K name iri t.i t.says))
 
 -- the term that a row sets or repeats is the last one behind it
 taken_last : (x : Position) (r : Row) (K : History) (v : Value) → taken_at x K (seen_before x r (seen_in K)) (set_by x r) ≡ Ok v → last_term x (r ∷ K) ≡ Some v
@@ -237,10 +241,10 @@ last_terms o H i rs x tags e = by_item i tags e x
 
 pub items_stated : ItemsAreStated
 unfolding with_items
-items_stated o H K xs [] fits tags before e =
+items_stated strict o H K xs [] allows fits tags before e =
     let same : H ≡ K = cc in
-    subst (λ (L : History). stated_by o L ≡ Ok (xs ++ [])) same (before ∙ ap Ok (sym (append-nil xs)))
-items_stated o H K xs (i ∷ is) fits tags before e =
+    subst (λ (L : History). stated_by (under strict o) L ≡ Ok (xs ++ [])) same (before ∙ ap Ok (sym (append-nil xs)))
+items_stated strict o H K xs (i ∷ is) allows fits tags before e =
     let rs = bound (item_rows o H i) (λ (rs : List Row). with_items o (rs ++ H) is) K e in
-    let one = item_stated o H xs before i rs.value fits.0 tags.0 rs.was in
-    items_stated o (rs.value ++ H) K (xs ++ (i ∷ [])) is fits.1 tags.1 one rs.then ∙ ap Ok (append_assoc xs (i ∷ []) is)
+    let one = item_stated strict o allows H xs before i rs.value fits.0 tags.0 rs.was in
+    items_stated strict o (rs.value ++ H) K (xs ++ (i ∷ [])) is allows fits.1 tags.1 one rs.then ∙ ap Ok (append_assoc xs (i ∷ []) is)

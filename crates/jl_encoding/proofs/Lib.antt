@@ -3,6 +3,7 @@ pub mod SlotLaws
 pub mod Claims
 pub mod TextLaws
 pub mod IriLaws
+pub mod GuardLaws
 pub mod TermLaws
 pub mod ItemLaws
 pub mod FileLaws

@@ -11,7 +11,7 @@ use Rattle.jl_encoding.specs.Terms.{put_prefix, put_iri, put_tail, put_term, put
 use Rattle.jl_encoding.specs.Items.{item_rows}
 use Rattle.jl_encoding.specs.Wide.{wide_from}
 use Rattle.jl_encoding.specs.Encoding.{each_item, cut, encoding}
-use Rattle.jl_encoding.specs.WorkedRows.{MadeRows, NoItems, MadeFile, EmptyPrefixLater, PassesOver, ThreeNames, TwoPrefixes, NoDatatypes, MadeFits}
+use Rattle.jl_encoding.specs.WorkedRows.{MadeRows, NoItems, MadeFile, TwoToAFrame, EmptyPrefixLater, PassesOver, ThreeNames, TwoPrefixes, NoDatatypes, MadeFits}
 
 pub made_rows : MadeRows
 unfolding each_item item_rows put_at put_term put_tail put_iri put_prefix put_text slot seen_in last_term
@@ -24,6 +24,10 @@ no_items = refl
 pub made_file : MadeFile
 unfolding encoding cut each_item item_rows put_at put_term put_tail put_iri put_prefix put_text slot seen_in last_term row_of message_of field_of varint_of varint_within
 made_file = refl
+
+pub two_to_a_frame : TwoToAFrame
+unfolding encoding cut each_item item_rows put_at put_term slot seen_in last_term row_of message_of field_of varint_of varint_within
+two_to_a_frame = refl
 
 pub empty_prefix_later : EmptyPrefixLater
 unfolding each_item item_rows put_at put_term put_tail put_iri put_prefix put_text slot seen_in last_term

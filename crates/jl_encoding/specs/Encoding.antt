@@ -1,9 +1,10 @@
 -- A file of items: its options row, the rows of each item, and how they stand in frames.
-use Rattle.std.specs.Prelude.{◌≡◌, ℕ, ◌+◌, ◌^◌, ◌==◌, ◌||◌, Bool, true, List, [], ◌∷◌, ◌++◌, length, map, reverse, Option, None, Result, Ok, not, nat_lt, if◌then◌else◌}
+use Rattle.std.specs.Prelude.{◌≡◌, ℕ, ◌+◌, ◌^◌, ◌<◌, ◌==◌, ◌||◌, Bool, true, false, List, [], ◌∷◌, ◌++◌, length, map, reverse, Option, None, Result, Ok, not, nat_lt, if◌then◌else◌}
 use Rattle.std.specs.List.{AllByRecursion}
 use Rattle.jl_base.specs.Results.{◌>>=◌}
 use Rattle.jl_base.specs.Terms.{Item}
 use Rattle.jl_rows.specs.Written.{StreamOptions, Row}
+use Rattle.jl_rows.specs.Files.{most_body}
 use Rattle.jl_rows.specs.History.{History}
 use Rattle.jl_rows.specs.Decoder.{decode}
 use Rattle.jl_spell.specs.Frames.{body_of, frames_of}
@@ -20,7 +21,7 @@ physical_of Form.Quads = 2
 
 -- both flags, tables of 4000, 150 and 32 entries, no logical type, version 2 and no stream name
 abbrev pub options_of : Form → StreamOptions
-options_of form = record { stream_name = []; physical = physical_of form; generalized = true; star = true; names = 4000; prefixes = 150; datatypes = 32; logical = 0; version = 2 }
+options_of form = record { stream_name = []; physical = physical_of form; generalized = true; star = true; names = 4000; prefixes = 150; datatypes = 32; logical = 0; version = 2; strict = false }
 
 abbrev pub first_row : Form → Row
 first_row form = Row.Options (options_of form)
@@ -60,7 +61,12 @@ encoding form per is = rows_of form is >>= λ rss. Ok (file_of form per rss)
 abbrev pub wide : Form → List Item → Option ℕ
 wide form is = wide_from (options_of form) (first_row form ∷ []) 1 is
 
--- Proper items that fit the form, none of them too wide, have a file, and it states these items and has no fault.
+-- Proper items that fit the form, none of them too wide, have a file. It states these items and has no fault, under the
+-- strict profile or not.
 abbrev pub EncodingsDecode : Type 0
 EncodingsDecode = (form : Form) (per : ℕ) (is : List Item) → AllByRecursion (Fits (options_of form)) is → AllByRecursion IsProperItem is → wide form is ≡ None
-    → (file : List ℕ) × (encoding form per is ≡ Ok file) × (decode file ≡ record { items = is; fault = None })
+    → (file : List ℕ) × (encoding form per is ≡ Ok file) × ((strict : Bool) → decode strict file ≡ record { items = is; fault = None })
+
+-- Each frame of such a file is shorter than a frame may be.
+abbrev pub FramesAreShort : Type 0
+FramesAreShort = (form : Form) (per : ℕ) (is : List Item) (rss : List (List Row)) → AllByRecursion IsProperItem is → wide form is ≡ None → rows_of form is ≡ Ok rss → AllByRecursion (λ (rs : List Row). length (body_of rs) < most_body) (framed form per rss)

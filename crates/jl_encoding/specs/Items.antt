@@ -1,5 +1,5 @@
 -- The rows of items behind the rows written before them.
-use Rattle.std.specs.Prelude.{◌≡◌, IsTrue, List, [], ◌∷◌, ◌++◌, Option, Some, None, Result, Ok}
+use Rattle.std.specs.Prelude.{◌≡◌, ◌==◌, Bool, true, false, IsTrue, List, [], ◌∷◌, ◌++◌, Option, Some, None, Result, Ok}
 use Rattle.std.specs.Option.{option_or}
 use Rattle.std.specs.List.{AllByRecursion}
 use Rattle.jl_base.specs.Results.{◌>>=◌}
@@ -60,9 +60,20 @@ unfoldable pub stated_by : StreamOptions → History → Result (List Item) Kind
 stated_by o [] = Ok []
 stated_by o (r ∷ H) = stated_by o H >>= λ xs. meaning o r H >>= λ ys. Ok (xs ++ ys)
 
--- The rows of items state these items, and no fault.
+-- options under the strict profile, or not
+abbrev pub under : Bool → StreamOptions → StreamOptions
+under strict o = record o { strict = strict }
+
+-- With these options the strict profile refuses no term and no namespace.
+pub record AllowsAll (o : StreamOptions) : Type 0 where
+  pub generalized : o.generalized ≡ true
+  pub star : o.star ≡ true
+  pub later : (o.version == 1) ≡ false
+
+-- The rows of items state these items, and no fault: also under the strict profile, where the options allow all.
 abbrev pub ItemsAreStated : Type 0
-ItemsAreStated = (o : StreamOptions) (H K : History) (xs is : List Item) → AllByRecursion (Fits o) is → AllByRecursion ItemHasTags is → stated_by o H ≡ Ok xs → with_items o H is ≡ Ok K → stated_by o K ≡ Ok (xs ++ is)
+ItemsAreStated = (strict : Bool) (o : StreamOptions) (H K : History) (xs is : List Item) → (strict ≡ true → AllowsAll o) → AllByRecursion (Fits o) is → AllByRecursion ItemHasTags is → stated_by (under strict o) H ≡ Ok xs → with_items o H is ≡ Ok K
+    → stated_by (under strict o) K ≡ Ok (xs ++ is)
 
 -- the term of a statement at a position
 abbrev pub term_of : Position → Item → Option Value

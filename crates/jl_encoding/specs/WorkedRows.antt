@@ -1,5 +1,5 @@
 -- Worked rows: items whose rows, and whose bytes, were written by hand.
-use Rattle.std.specs.Prelude.{◌≡◌, ℕ, true, List, [], ◌∷◌, ◌++◌, Some, None, Ok, codes}
+use Rattle.std.specs.Prelude.{◌≡◌, ℕ, true, false, List, [], ◌∷◌, ◌++◌, Some, None, Ok, codes}
 use Rattle.jl_base.specs.Terms.{Tail, Value, Item}
 use Rattle.jl_rows.specs.declared.row.Table.{Table}
 use Rattle.jl_rows.specs.Written.{StreamOptions, Ending, Term, Row}
@@ -34,6 +34,16 @@ MadeFile = encoding Form.Triples 256 made ≡ Ok (
     0x0A ∷ 0x19 ∷ 0x52 ∷ 0x17 ∷ 0x12 ∷ 0x15 ∷ (codes "http://example.org/p/" ++ (0x0A ∷ 0x06 ∷ 0x4A ∷ 0x04 ∷ 0x12 ∷ 0x02 ∷ 0x32 ∷ 0x36 ∷
     0x0A ∷ 0x1D ∷ 0x12 ∷ 0x1B ∷ 0x0A ∷ 0x02 ∷ 0x08 ∷ 0x02 ∷ 0x2A ∷ 0x02 ∷ 0x08 ∷ 0x03 ∷ 0x5A ∷ 0x11 ∷ 0x0A ∷ 0x0B ∷ (codes "text 531564" ++ (0x12 ∷ 0x02 ∷ 0x65 ∷ 0x6E ∷ [])))))))))
 
+abbrev pub of_nodes : List ℕ → List ℕ → List ℕ → Item
+of_nodes s p o = Item.Triple (Value.Bnode s) (Value.Bnode p) (Value.Bnode o)
+
+-- Two items to a frame: the third one stands in a second frame.
+abbrev pub TwoToAFrame : Type 0
+TwoToAFrame = encoding Form.Triples 2 (of_nodes (codes "a") (codes "b") (codes "c") ∷ of_nodes (codes "a") (codes "b") (codes "d") ∷ of_nodes (codes "a") (codes "b") (codes "c") ∷ []) ≡ Ok (
+    0x28 ∷ 0x0A ∷ 0x12 ∷ 0x0A ∷ 0x10 ∷ 0x10 ∷ 0x01 ∷ 0x18 ∷ 0x01 ∷ 0x20 ∷ 0x01 ∷ 0x48 ∷ 0xA0 ∷ 0x1F ∷ 0x50 ∷ 0x96 ∷ 0x01 ∷ 0x58 ∷ 0x20 ∷ 0x78 ∷ 0x02 ∷
+    0x0A ∷ 0x0B ∷ 0x12 ∷ 0x09 ∷ 0x12 ∷ 0x01 ∷ 0x61 ∷ 0x32 ∷ 0x01 ∷ 0x62 ∷ 0x52 ∷ 0x01 ∷ 0x63 ∷ 0x0A ∷ 0x05 ∷ 0x12 ∷ 0x03 ∷ 0x52 ∷ 0x01 ∷ 0x64 ∷
+    0x07 ∷ 0x0A ∷ 0x05 ∷ 0x12 ∷ 0x03 ∷ 0x52 ∷ 0x01 ∷ 0x63 ∷ [])
+
 abbrev pub iri : ℕ → ℕ → Term
 iri p n = Term.Iri (record { prefix = p; name = n })
 
@@ -48,7 +58,7 @@ EmptyPrefixLater = rows_of Form.Triples (Item.Triple (named (codes "a")) (named 
 
 -- two names, and one prefix
 abbrev pub small : StreamOptions
-small = record { stream_name = []; physical = 1; generalized = true; star = true; names = 2; prefixes = 1; datatypes = 0; logical = 0; version = 2 }
+small = record { stream_name = []; physical = 1; generalized = true; star = true; names = 2; prefixes = 1; datatypes = 0; logical = 0; version = 2; strict = false }
 
 abbrev pub two_names : History
 two_names = Row.Entry Table.Name 0 (codes "b") ∷ Row.Entry Table.Name 0 (codes "a") ∷ []

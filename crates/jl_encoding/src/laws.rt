@@ -1,8 +1,8 @@
 //! What holds of the rows of items: laws, each the contract of a function that does nothing.
-ghost use Rattle.jl_encoding.specs.Encoding.{EncodingsDecode};
+ghost use Rattle.jl_encoding.specs.Encoding.{EncodingsDecode, FramesAreShort};
 ghost use Rattle.jl_encoding.specs.Handed.{RowsEndFrames, RowsGoUnderWay, MoreIsHanded, FramesAreHanded, FrontIsHanded, MoreRows, MoreHistory, MoreWidth, NarrowHaveRows};
 ghost use Rattle.jl_encoding.specs.Items.{ItemsAreStated, LastTermsAreTheItems};
-ghost use Rattle.jl_encoding.specs.WorkedRows.{MadeRows, NoItems, MadeFile, EmptyPrefixLater, PassesOver, ThreeNames, TwoPrefixes, NoDatatypes, MadeFits};
+ghost use Rattle.jl_encoding.specs.WorkedRows.{MadeRows, NoItems, MadeFile, TwoToAFrame, EmptyPrefixLater, PassesOver, ThreeNames, TwoPrefixes, NoDatatypes, MadeFits};
 
 /// The rows that items are given behind a history state these items, each behind what the history states, and no row
 /// has a fault. Behind a statement's rows its terms are the last ones, and a namespace changes none.
@@ -12,9 +12,10 @@ pub fn items_are_stated()
 {}
 
 /// Proper items that fit the form, and of which none is too wide, have a file, and it is decoded to these items without
-/// a fault.
+/// a fault, under the strict profile as well. Each of its frames is shorter than a frame may be.
 pub fn encodings_decode()
-    ensures { EncodingsDecode }
+    ensures decode { EncodingsDecode }
+    ensures short { FramesAreShort }
 {}
 
 /// Frames that are ended are handed on, and they are a front of the file: with the last frame they are all of it. A
@@ -32,12 +33,13 @@ pub fn frames_are_handed()
     ensures narrow { NarrowHaveRows }
 {}
 
-/// Items, and their rows and bytes worked by hand: ids that are left out, the empty prefix before and behind others, a
-/// slot that is passed over, terms said again, and items that are too wide.
+/// Items, and their rows and bytes worked by hand: ids that are left out, two items to a frame, the empty prefix before
+/// others and after them, a slot that is passed over, terms said again, and items that are too wide.
 pub fn worked_rows()
     ensures made_rows { MadeRows }
     ensures no_items { NoItems }
     ensures made_file { MadeFile }
+    ensures two_to_a_frame { TwoToAFrame }
     ensures empty_prefix_later { EmptyPrefixLater }
     ensures passes_over { PassesOver }
     ensures three_names { ThreeNames }

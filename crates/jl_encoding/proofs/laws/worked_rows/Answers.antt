@@ -1,4 +1,4 @@
-use Rattle.jl_encoding.proofs.WorkedRows.{made_rows, no_items, made_file, empty_prefix_later, passes_over, three_names, two_prefixes, no_datatypes, made_fits}
+use Rattle.jl_encoding.proofs.WorkedRows.{made_rows, no_items, made_file, two_to_a_frame, empty_prefix_later, passes_over, three_names, two_prefixes, no_datatypes, made_fits}
 use Rattle.jl_encoding.proofs.laws.worked_rows.Goals as goal
 
 pub returns-clause-made_rows : goal.returns-clause-made_rows
@@ -9,6 +9,9 @@ returns-clause-no_items c = no_items
 
 pub returns-clause-made_file : goal.returns-clause-made_file
 returns-clause-made_file c = made_file
+
+pub returns-clause-two_to_a_frame : goal.returns-clause-two_to_a_frame
+returns-clause-two_to_a_frame c = two_to_a_frame
 
 pub returns-clause-empty_prefix_later : goal.returns-clause-empty_prefix_later
 returns-clause-empty_prefix_later c = empty_prefix_later

@@ -35,6 +35,7 @@ stands (Term.Bnode label) m base g ks hs = refl
 stands (Term.Literal lex e) m base g ks hs = refl
 stands (Term.Nested s p o) m base g ks hs = ap (λ (xs : List ℕ). field_of (base + 4) (Bytes xs) ++ fields_of (filled_among m ks hs)) (three_stand s p o (stands s) (stands p) (stands o))
 stands Term.Default m base g ks hs = refl
+stands (Term.Refused kind) m base g ks hs = refl
 
 pub three_parts : (s p o : Term) → message_of Message.Triple (positions s p o) ≡ three_bytes s p o
 three_parts s p o = three_stand s p o (stands s) (stands p) (stands o)
@@ -47,6 +48,7 @@ graph_parts (Term.Bnode label) = append-nil _
 graph_parts (Term.Literal lex e) = append-nil _
 graph_parts (Term.Nested s p o) = refl
 graph_parts Term.Default = append-nil _
+graph_parts (Term.Refused kind) = refl
 
 pub four_parts : (s p o g : Term) → message_of Message.Quad (position s ++ (position p ++ (position o ++ graph g))) ≡ three_bytes s p o ++ graph_bytes g
 unfolding message_of

@@ -36,6 +36,7 @@ term_bytes base (Term.Bnode label) = field_of (base + 2) (Bytes label)
 term_bytes base (Term.Literal lex e) = field_of (base + 3) (Bytes (literal_of lex e))
 term_bytes base (Term.Nested s p o) = field_of (base + 4) (Bytes (term_bytes 0 s ++ (term_bytes 4 p ++ term_bytes 8 o)))
 term_bytes base Term.Default = []
+term_bytes base (Term.Refused kind) = []
 
 -- a subject, a predicate and an object
 abbrev pub three_bytes : Term → Term → Term → List ℕ
@@ -49,6 +50,7 @@ graph_bytes (Term.Bnode label) = field_of 14 (Bytes label)
 graph_bytes Term.Default = field_of 15 (Bytes [])
 graph_bytes (Term.Literal lex e) = field_of 16 (Bytes (literal_of lex e))
 graph_bytes (Term.Nested s p o) = []
+graph_bytes (Term.Refused kind) = []
 
 -- how deep a term nests
 abbrev pub depth : Value → ℕ

@@ -64,11 +64,13 @@ _jellyp() {
         mapfile -t COMPREPLY < <(compgen -W 'nquads validate inspect' -- "$word")
         return
     fi
+    local ended=""
     for part in "${words[@]:1}"; do
-        # There is one file, after the options.
-        [[ $part == --* && $part != -- ]] || return
+        # There is one file, after the options and perhaps a -- that ends them.
+        [[ -z $ended && $part == --* ]] || return
+        [[ $part != -- ]] || ended=yes
     done
-    if [[ $word == --* ]]; then
+    if [[ -z $ended && $word == --* ]]; then
         _jellyp_option "$word" "${words[@]}"
     else
         _jellyp_file "$word"

@@ -34,7 +34,7 @@ class Refused(Exception):
 
 
 def varint(data, at):
-    """The number that begins there, and the place behind it."""
+    """The number that begins there, and the place after it."""
     number = 0
     for count in range(10):
         if at + count == len(data):
@@ -200,7 +200,7 @@ def wrong_before_damage(frames, first, is_cut, out, found):
     safe = [place for place, end in ends.items() if end <= first and (place[1] == 0 or not is_cut)]
     last = max(safe, default=(0, 0))
     if found and found[0] <= last and found[0] != (last[0], 0):
-        return "%s, which is before the damage behind row %s" % (found, last)
+        return "%s, which is before the damage, which comes after row %s" % (found, last)
     before = reading.text([item for item in items if item[0] <= last])
     return "" if out.startswith(before) else "it begins not with the text before the damage: " + difference(out, before)
 

@@ -16,9 +16,10 @@ ghost use Rattle.jl_base.specs.Items.{item_of};
 ghost use Rattle.encode_made.specs.Made.{IsOfGroup};
 ghost use Rattle.encode_made.specs.declared.Ending.TheVariants.{NoMemory, Usage};
 
-use jl_base::{ErrSink, FileShelf, Sink, write_all};
+use jl_base::{Sink, write_all};
 use jl_encode::{Encoder, Stop};
 use jl_encoding::Form;
+use jl_io::{ErrSink, FileShelf};
 use made::{Made, refill};
 use std::alloc::{AllocError, AllocFailed, Global};
 use std::process::ExitCode;

@@ -4,13 +4,14 @@
 //! that call with 5, and in both cases it has written nothing.
 #![tactic(auto)]
 
-ghost use Rattle.std.specs.Prelude.{◌≡◌, length, map, vec_len, string_bytes, IfOk};
+ghost use Rattle.std.specs.Prelude.{◌≡◌, length, map, drop, vec_len, string_bytes, IfOk};
 ghost use Rattle.std.specs.IoError.{error_kind};
 ghost use Rattle.jellyp.specs.declared.Refusal.TheVariants.{NoMemory};
-ghost use Rattle.jellyp.specs.Refusals.{IsRefusedFor};
-ghost use Rattle.jl_base.specs.FileSources.{name_of};
+ghost use Rattle.jellyp.specs.Refusals.{IsRefusedFor, status_of};
+ghost use Rattle.jl_io.specs.FileSources.{name_of};
 
-use jl_base::{ErrSink, FileShelf, FileSource, Text};
+use jl_base::Text;
+use jl_io::{ErrSink, FileShelf, FileSource};
 use jl_top::{Gate, files, serve};
 use std::alloc::{AllocError, Global};
 use std::process::ExitCode;
@@ -52,15 +53,25 @@ impl Gate for Open {
     fn enter(&self, _worker: u32, _run: u64) {}
 }
 
-// The arguments as words.
-fn words(alloc: Global, arguments: &[String]) -> Result<Vec<Text>, AllocError>
-    ensures { IfOk result (λ words. words.items ≡ map string_bytes arguments.now) }
+// The texts of these arguments.
+fn texts(alloc: Global, arguments: &[String]) -> Result<Vec<Text>, AllocError>
+    ensures { IfOk result (λ texts. texts.items ≡ map string_bytes arguments.now) }
 {
-    let mut words = Vec::new(alloc);
+    let mut texts = Vec::new(alloc);
     for argument in arguments {
-        words.push(Text::from_bytes(alloc, argument.as_bytes())?)?;
+        texts.push(Text::from_bytes(alloc, argument.as_bytes())?)?;
     }
-    Ok(words)
+    Ok(texts)
+}
+
+// The words: all arguments but the first, which is the program's name.
+fn words(alloc: Global, arguments: &[String]) -> Result<Vec<Text>, AllocError>
+    ensures { IfOk result (λ words. words.items ≡ map string_bytes (drop 1 arguments.now)) }
+{
+    match arguments.split_first() {
+        Some((_, words)) => texts(alloc, words),
+        None => Ok(Vec::new(alloc)),
+    }
 }
 
 // A source for each file, in order.
@@ -81,7 +92,7 @@ fn sources<'a, R: Files>(
 
 fn run<R: Runtime + AllocGlobal + Threads + Sync>(rt: &R) -> Result<u8, Refusal> {
     let alloc = rt.alloc();
-    let arguments: Vec<String> = env::args(rt)?.skip(1).collect(alloc)?;
+    let arguments: Vec<String> = env::args(rt)?.collect(alloc)?;
     let words = words(alloc, &arguments)?;
     let mut sources = sources(rt, alloc, files(&words))?;
     let mut out = FileShelf::new(rt, alloc, None, false)?;
@@ -89,10 +100,17 @@ fn run<R: Runtime + AllocGlobal + Threads + Sync>(rt: &R) -> Result<u8, Refusal>
     Ok(serve(rt, alloc, &words, &mut sources, &mut out, &mut err, &Open))
 }
 
-fn main(rt: HostRuntime) -> ExitCode {
-    ExitCode::from(match run(&rt) {
+// The status that the program ends with.
+fn status(ran: Result<u8, Refusal>) -> u8
+    ensures { result ≡ status_of ran }
+{
+    match ran {
         Ok(status) => status,
         Err(Refusal::Usage) => 2,
         Err(Refusal::NoMemory) => 5,
-    })
+    }
+}
+
+fn main(rt: HostRuntime) -> ExitCode {
+    ExitCode::from(status(run(&rt)))
 }

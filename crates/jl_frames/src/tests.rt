@@ -1,5 +1,5 @@
 use crate::{Frames, Plan, index};
-use jl_base::{Fault, Kind, MemSource, Place, Run, Space, Span};
+use jl_base::{Fault, Kind, Place, Run, Space, Span};
 use std::alloc::{AllocError, Global};
 use std::process::Abort;
 use std::test::Fail;
@@ -9,12 +9,7 @@ fn filled(alloc: Global, empty: usize, last: &[u8]) -> Result<Space, AllocError>
     let mut bytes = Vec::new(alloc);
     bytes.resize(empty, 0)?;
     bytes.extend_from_slice(last)?;
-    let mut space = Space::new(alloc);
-    let mut source = MemSource::new(alloc, &bytes, 10, &[])?;
-    let Ok(()) = space.fill(&mut source, 1000) else {
-        return Err(AllocError);
-    };
-    Ok(space)
+    Space::from_bytes(alloc, &bytes)
 }
 
 fn indexed(rt: &impl Abort, alloc: Global, space: &Space) -> Result<Frames, AllocError> {

@@ -125,13 +125,11 @@ impl<R: Files + Print + Drop> Sink for FileShelf<R> {
         ensures bytes { WriteAppends (contents_of R.File.contents self.old) (contents_of R.File.contents self.new)
             result piece.now }
     {
-        match self.write_some(piece) {
-            Ok(count) => Ok(count),
-            Err(failed) => {
-                self.faults = self.faults.saturating_add(1);
-                Err(failed)
-            }
+        let result = self.write_some(piece);
+        if result.is_err() {
+            self.faults = self.faults.saturating_add(1);
         }
+        result
     }
 }
 

@@ -1,5 +1,6 @@
 use crate::{Ended, Refused, Tally, count_items, write_lines};
-use jl_base::{Fault, Kind, MemShelf, MemSource, Place, Shelf, Space};
+use jl_base::{Fault, Kind, Place, Shelf, Space};
+use jl_io::MemShelf;
 use std::test::Fail;
 
 // Options, a name and a triple.
@@ -26,11 +27,7 @@ fn lines_of_a_file(rt: HostRuntime) -> Result<(), Fail> {
         (ONE, 5, false, b"<a> <"),
     ];
     for (file, room, whole, lines) in files {
-        let mut space = Space::new(alloc);
-        assert_eq!(rt;
-            space.fill(&mut MemSource::new(alloc, file, 100, &[])?, 100),
-            Ok(())
-        );
+        let space = Space::from_bytes(alloc, file)?;
         let mut shelf = MemShelf::new(alloc, 100, room, 1, &[])?;
         match write_lines(alloc, &space, 16, &mut shelf) {
             Ended::Whole => assert!(rt; whole),
@@ -50,11 +47,7 @@ fn items_of_a_file(rt: HostRuntime) -> Result<(), Fail> {
     let alloc = rt.alloc();
     let files: [(&[u8], u64, u64); 3] = [(b"", 0, 0), (b"\0\0", 2, 0), (ONE, 1, 1)];
     for (file, frames, statements) in files {
-        let mut space = Space::new(alloc);
-        assert_eq!(rt;
-            space.fill(&mut MemSource::new(alloc, file, 100, &[])?, 100),
-            Ok(())
-        );
+        let space = Space::from_bytes(alloc, file)?;
         let tally = Tally {
             frames,
             statements,
@@ -65,11 +58,7 @@ fn items_of_a_file(rt: HostRuntime) -> Result<(), Fail> {
             Err(_) => assert!(rt; false),
         }
     }
-    let mut space = Space::new(alloc);
-    assert_eq!(rt;
-        space.fill(&mut MemSource::new(alloc, FAULTY, 100, &[])?, 100),
-        Ok(())
-    );
+    let space = Space::from_bytes(alloc, FAULTY)?;
     match count_items(alloc, &space, 1) {
         Err(Refused::Malformed(found)) => assert_eq!(rt; found.kind, Kind::NoEntry),
         _ => assert!(rt; false),

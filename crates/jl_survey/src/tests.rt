@@ -1,7 +1,7 @@
 ghost use Rattle.std.specs.Prelude.{◌<◌};
 
 use crate::{report_inspect, report_valid, survey};
-use jl_base::{MemSource, Space, Text};
+use jl_base::{Space, Text};
 use jl_text::{Notice, report_fault};
 use std::alloc::Global;
 use std::process::Abort;
@@ -16,10 +16,11 @@ const ONE_TRIPLE: [u8; 36] = [
 
 // What `inspect` says of the file of these pieces: its report, or the line of its fault.
 fn told(rt: &impl Abort, alloc: Global, pieces: &[&[u8]]) -> Result<Text, Fail> {
-    let mut space = Space::new(alloc);
+    let mut bytes = Vec::new(alloc);
     for piece in pieces {
-        space.fill(&mut MemSource::new(alloc, piece, 64, &[])?, 1024)?;
+        bytes.extend_from_slice(piece)?;
     }
+    let space = Space::from_bytes(alloc, &bytes)?;
     assert!(rt; space.bytes().len() < 1024);
     match survey(&space) {
         Ok(found) => Ok(report_inspect(alloc, &found, &space)?),

@@ -3,7 +3,8 @@ ghost use Rattle.std.specs.Prelude.{◌≤◌};
 mod rows;
 
 use super::*;
-use jl_base::{MemShelf, MemSource, Text};
+use jl_base::Text;
+use jl_io::{MemShelf, MemSource};
 use rows::{KINDS, LASTS, REPEATED, REPORTS, ROWS};
 use std::alloc::{AllocError, Global};
 use std::test::Fail;

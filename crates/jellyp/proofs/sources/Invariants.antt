@@ -1,5 +1,5 @@
 use Rattle.std.proofs.Common.{◌≡◌, take, map}
-use Rattle.jl_base.specs.FileSources.{name_of}
+use Rattle.jl_io.specs.FileSources.{name_of}
 use Rattle.jellyp.proofs.sources.Given as goal
 
 abbrev pub invariant-loop-name : goal.invariant-loop-name

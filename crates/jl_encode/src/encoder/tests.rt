@@ -5,8 +5,9 @@ ghost use Rattle.jl_encoding.specs.Items.{Fits};
 
 use super::Encoder;
 use crate::Stop;
-use jl_base::{Item, MemShelf, Tail, Term, Text, Three};
+use jl_base::{Item, Tail, Term, Text, Three};
 use jl_encoding::Form;
+use jl_io::MemShelf;
 use sqlite_items::Boxed;
 use std::alloc::Global;
 use std::process::Abort;

@@ -1,5 +1,5 @@
 -- How deep a term nests.
-use Rattle.std.proofs.Common.{◌≡◌, ℕ, ◌+◌, ◌*◌, ◌<◌, max, ap, arith}
+use Rattle.std.proofs.Common.{ℕ, ◌+◌, ◌*◌, ◌<◌, max, arith}
 use Rattle.jl_rows.specs.Written.{Term}
 
 abbrev pub depth : Term → ℕ
@@ -9,13 +9,14 @@ depth (Term.Bnode label) = 0
 depth (Term.Literal lex e) = 0
 depth (Term.Nested s p o) = max (depth s) (max (depth p) (depth o)) + 1
 depth Term.Default = 0
+depth (Term.Refused k) = 0
 
 -- a part is not as deep as the whole
-pub subject_less : (s p o whole : Term) → Term.Nested s p o ≡ whole → 2 * depth s + 1 < 2 * depth whole
-subject_less s p o whole e = let same : max (depth s) (max (depth p) (depth o)) + 1 ≡ depth whole = ap depth e in omega arith
+pub subject_less : (s p o : Term) → 3 * depth s + 2 < 3 * depth (Term.Nested s p o)
+subject_less s p o = omega arith
 
-pub predicate_less : (s p o whole : Term) → Term.Nested s p o ≡ whole → 2 * depth p + 1 < 2 * depth whole
-predicate_less s p o whole e = let same : max (depth s) (max (depth p) (depth o)) + 1 ≡ depth whole = ap depth e in omega arith
+pub predicate_less : (s p o : Term) → 3 * depth p + 2 < 3 * depth (Term.Nested s p o)
+predicate_less s p o = omega arith
 
-pub object_less : (s p o whole : Term) → Term.Nested s p o ≡ whole → 2 * depth o + 1 < 2 * depth whole
-object_less s p o whole e = let same : max (depth s) (max (depth p) (depth o)) + 1 ≡ depth whole = ap depth e in omega arith
+pub object_less : (s p o : Term) → 3 * depth o + 2 < 3 * depth (Term.Nested s p o)
+object_less s p o = omega arith

@@ -8,3 +8,4 @@ pub mod Looks
 pub mod Following
 pub mod StepLaw
 pub mod RunLaw
+pub mod Guards

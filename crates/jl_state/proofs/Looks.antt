@@ -49,6 +49,7 @@ looked_is slots seen (Term.Nested s p o) =
     ∙ bind_ext (value slots seen s) _ _ (λ a. bind_assoc (value slots one p) _ _
     ∙ bind_ext (value slots one p) _ _ (λ b. bind_assoc (value slots two o) _ _)))
 looked_is slots seen Term.Default = refl
+looked_is slots seen (Term.Refused k) = refl
 
 -- a term that is set, or the one before
 abbrev pub set_or : Option Value → Slots → List Ids → Term → Result Value Kind
@@ -61,3 +62,4 @@ placed_is slots seen before (Term.Bnode label) = looked_is slots seen (Term.Bnod
 placed_is slots seen before (Term.Literal lex e) = looked_is slots seen (Term.Literal lex e)
 placed_is slots seen before (Term.Nested s p o) = looked_is slots seen (Term.Nested s p o)
 placed_is slots seen before Term.Default = looked_is slots seen Term.Default
+placed_is slots seen before (Term.Refused k) = looked_is slots seen (Term.Refused k)

@@ -19,12 +19,10 @@ unfolding Rattle.jl_state.specs.declared.known.Known.TheBlock.hidden-the_row-Kno
 has_nested bytes three s p o = (s, p, o)
 
 -- a triple term whose three are looked up one after another
-pub looked_nested : (slots : Slots) (bytes : List ℕ) (last i j k : Ids) (x y z whole : written.Term) (three : KnownThree) → written.Nested x y z ≡ whole
+pub looked_nested : (slots : Slots) (bytes : List ℕ) (last i j k : Ids) (x y z : written.Term) (three : KnownThree)
     → looked slots last x ≡ Ok (known_value bytes three.s, i) → looked slots i y ≡ Ok (known_value bytes three.p, j) → looked slots j z ≡ Ok (known_value bytes three.o, k)
-    → looked slots last whole ≡ Ok (known_value bytes (Triple three), k)
-looked_nested slots bytes last i j k x y z whole three e p q r =
-    ap (looked slots last) (sym e)
-    ∙ rw (p, q, r) (ap (λ (v : terms.Value). let l : Looked = Ok (v, k) in l) (sym (value_of_nested bytes three)))
+    → looked slots last (written.Nested x y z) ≡ Ok (known_value bytes (Triple three), k)
+looked_nested slots bytes last i j k x y z three p q r = rw (p, q, r) (ap (λ (v : terms.Value). let l : Looked = Ok (v, k) in l) (sym (value_of_nested bytes three)))
 
 parts_at : (bytes : List ℕ) (three : KnownThree) → AreParts bytes (Triple three) three
 unfolding Rattle.jl_state.specs.declared.known.Known.TheBlock.hidden-the_row-KnownThree-0 denote.Hole.Carrier.hidden

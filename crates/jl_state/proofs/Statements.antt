@@ -1,5 +1,5 @@
 -- A statement's terms, one position after another.
-use Rattle.std.proofs.Common.{◌≡◌, ℕ, ◌==◌, ◌&&◌, Bool, true, false, List, [], ◌∷◌, Option, Some, None, is_none, Result, Ok, Err, refl, ap, sym, ◌∙◌, cond}
+use Rattle.std.proofs.Common.{◌≡◌, ℕ, ◌==◌, ◌&&◌, ◌||◌, Bool, true, false, List, [], ◌∷◌, Option, Some, None, is_none, Result, Ok, Err, refl, ap, sym, ◌∙◌, cond}
 use Rattle.jl_base.specs.Results.{◌>>=◌, some_or}
 use Rattle.jl_base.specs.Terms.{Value, Item}
 use Rattle.jl_base.specs.declared.kind.Kind.{Kind}
@@ -10,7 +10,7 @@ use Rattle.jl_state.specs.States.{State, slots_in}
 use Rattle.jl_state.specs.Steps.{Stepped, Looked, placed, graph_for, triple_step, quad_step}
 use Rattle.jl_state.specs.declared.stop.Stop.{Stop}
 use Rattle.jl_state.specs.declared.stop.Stop.TheVariants.{Fault, NoMemory}
-use Rattle.jl_state.specs.Answers.{Stops}
+use Rattle.jl_state.specs.Answers.{Stops, WantsFor}
 use Rattle.jl_state.specs.declared.state.State as code
 use Rattle.jl_state.specs.declared.known.Known.{Known}
 use Rattle.jl_rows.specs.Seen.{options_seen}
@@ -111,6 +111,17 @@ module _ (o : StreamOptions) (t : State) (x y z w : Term) where
 pub stops_on : {A B : Type 0} (said : Result A Kind) (all : Result B Kind) (stop : Stop) → ((k : Kind) → said ≡ Err k → all ≡ Err k) → Stops said stop → Stops all stop
 stops_on said all (Fault kind) on h = on kind h
 stops_on said all NoMemory on h = tt
+
+-- memory that the last of four terms wants
+last_of_four : (a b c d : Bool) → d ≡ true → (a || (b || (c || d))) ≡ true
+last_of_four true b c d e = refl
+last_of_four false true c d e = refl
+last_of_four false false true d e = refl
+last_of_four false false false d e = e
+
+pub wants_fourth : (a b c d : Bool) (stop : Stop) → WantsFor d stop → WantsFor (a || (b || (c || d))) stop
+wants_fourth a b c d (Fault kind) h = tt
+wants_fourth a b c d NoMemory h = last_of_four a b c d h
 
 -- the code's test, on what the state stands for
 pub graph_is_there : (bytes : List ℕ) (s : code.State) {b : Bool} → b ≡ false → b ≡ ((s.options.physical == 3) && is_none s.open_graph) → (is_graphs (options_seen bytes s.options) && is_none (maybe_value bytes s.open_graph)) ≡ false

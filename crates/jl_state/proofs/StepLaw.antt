@@ -5,15 +5,17 @@ use Rattle.std.proofs.lemmas.List.{length-replicate}
 use Rattle.jl_base.specs.Results.{◌>>=◌, refuse_if, some_or}
 use Rattle.jl_base.specs.Terms.{Value, Item}
 use Rattle.jl_base.specs.declared.kind.Kind.{Kind}
-use Rattle.jl_base.specs.declared.kind.Kind.TheVariants.{OptionsDiffer, WrongRow, NoGraph, GraphOpen}
+use Rattle.jl_base.specs.declared.kind.Kind.TheVariants.{OptionsDiffer, WrongRow, NoTerm, NoGraph, GraphOpen, EarlyNamespace}
 use Rattle.jl_rows.specs.declared.row.Table.{Table}
 use Rattle.jl_rows.specs.Written.{Ids, Term, StreamOptions, Row}
 use Rattle.jl_rows.specs.History.{History, slot, entry_id, seen_after, seen_in}
 use Rattle.jl_rows.specs.Values.{Slots, Position, value, iri_text, slots_of, last_term, open_graph}
-use Rattle.jl_rows.specs.Decoder.{size_of, is_same, is_graphs, is_wrong_row, term_at, graph_around, stated, said_after, meaning}
+use Rattle.jl_rows.specs.Decoder.{size_of, is_same, is_graphs, is_wrong_row, read_under, term_at, graph_around, stated, said_after, meaning}
 use Rattle.jl_state.specs.States.{State, table_of, entry_of, term_of, slots_in, opening}
 use Rattle.jl_state.specs.Steps.{Stepped, Looked, ids_after, text_at, looked, placed, id_after, graph_for, row_step, step}
 use Rattle.jl_state.specs.Stands.{last_ids, Stands, Answers, StepsFollow, OpeningStands}
+use Rattle.jl_state.proofs.Guards.{read_kept}
+use Rattle.std.proofs.Common.{◌&&◌, ◌==◌}
 use Rattle.jl_state.proofs.Looks.{last_ids-cons, looked_is, placed_is, set_or, behind}
 use Rattle.jl_state.proofs.Following.{each, each_table, same_slots, quiet_options, after_graph_end, after_graph_start, after_namespace, after_triple, after_quad, entry_id_is, after_entry}
 
@@ -68,12 +70,15 @@ module _ (o : StreamOptions) (s : State) (H : History) (h : Stands o s H) where
       (guarded o (Row.GraphStart g) H (is_some (open_graph H)) GraphOpen _ _ rest)
 
   namespace_is : (name : List ℕ) (i : Option Ids) → Answers o (Row.Namespace name i) H (row_step o (Row.Namespace name i) s) (said_after o (Row.Namespace name i) H)
-  namespace_is name None = refl
+  namespace_is name None = guarded o (Row.Namespace name None) H (o.strict && (o.version == 1)) EarlyNamespace (Err NoTerm) (Err NoTerm) refl
   namespace_is name (Some i) =
       let same : text_at (slots_in s) (ids_after i s.ids) ≡ iri_text (slots_of H) (i ∷ seen_in H)
       = ap (λ (sl : Slots). text_at sl (ids_after i s.ids)) (same_slots h) ∙ ap (λ (x : Ids). text_at (slots_of H) x) (ap (ids_after i) h.ids ∙ sym (last_ids-cons i (seen_in H))) in
-      subst (λ (x : Result (List ℕ) Kind). Answers o (Row.Namespace name (Some i)) H (x >>= λ iri. Ok (record s { ids = ids_after i s.ids }, Item.Namespace name iri ∷ [])) (said_after o (Row.Namespace name (Some i)) H)) (sym same)
-      (goes_on o (Row.Namespace name (Some i)) H (iri_text (slots_of H) (i ∷ seen_in H)) _ _ (λ t e. (refl, after_namespace o s H h name i)))
+      let said : Result (List Item) Kind = iri_text (slots_of H) (i ∷ seen_in H) >>= λ iri. Ok (Item.Namespace name iri ∷ []) in
+      let after : Result (List ℕ) Kind → Stepped = λ x. (x >>= λ iri. Ok (record s { ids = ids_after i s.ids }, Item.Namespace name iri ∷ [])) in
+      guarded o (Row.Namespace name (Some i)) H (o.strict && (o.version == 1)) EarlyNamespace (after (text_at (slots_in s) (ids_after i s.ids))) said
+      (subst (λ (x : Result (List ℕ) Kind). Answers o (Row.Namespace name (Some i)) H (after x) said) (sym same)
+      (goes_on o (Row.Namespace name (Some i)) H (iri_text (slots_of H) (i ∷ seen_in H)) _ _ (λ t e. (refl, after_namespace o s H h name i))))
 
   entry_is : (t : Table) (id : ℕ) (text : List ℕ) → Answers o (Row.Entry t id text) H (row_step o (Row.Entry t id text) s) (said_after o (Row.Entry t id text) H)
   entry_is t id text = elim (cases_lt (id_after id (entry_of s t)) (length (table_of s t))) [
@@ -130,8 +135,13 @@ module _ (o : StreamOptions) (s : State) (H : History) (h : Stands o s H) where
   row_is (Row.Triple x y z) = triple_is x y z
   row_is (Row.Quad x y z w) = quad_is x y z w
 
+  -- the same with a row that was read as another, which it is where it has no fault
+  answers_as : (r r' : Row) (x : Stepped) (y : Result (List Item) Kind) → ((a : List Item) → y ≡ Ok a → r' ≡ r) → Answers o r' H x y → Answers o r H x y
+  answers_as r r' (Ok next) y same h = (h.0, subst (λ (q : Row). Stands o next.0 (q ∷ H)) (same next.1 h.0) h.1)
+  answers_as r r' (Err k) y same h = h
+
   pub step_is : (r : Row) → Answers o r H (step o r s) (meaning o r H)
-  step_is r = guarded o r H (is_wrong_row o r) WrongRow (row_step o r s) (said_after o r H) (row_is r)
+  step_is r = guarded o r H (is_wrong_row o r) WrongRow (row_step o (read_under o r) s) (said_after o (read_under o r) H) (answers_as r (read_under o r) (row_step o (read_under o r) s) (said_after o (read_under o r) H) (read_kept o r H) (row_is (read_under o r)))
 
 pub steps_follow : StepsFollow
 steps_follow o s H r h = step_is o s H h r

@@ -1,5 +1,5 @@
 -- What a step of the code answers, against what the definition says. Want of memory is free.
-use Rattle.std.specs.Prelude.{◌≡◌, ℕ, List, Result, Ok, Err}
+use Rattle.std.specs.Prelude.{◌≡◌, ℕ, Bool, true, List, Result, Ok, Err}
 use Rattle.jl_base.specs.declared.kind.Kind.{Kind}
 use Rattle.jl_state.specs.declared.known.Known.{Known}
 use Rattle.jl_state.specs.declared.tables.LastIds.{LastIds}
@@ -18,3 +18,8 @@ Stops said NoMemory = Unit {0}
 abbrev pub Looks : List ℕ → Looked → LastIds → Result Known Stop → Type 0
 Looks bytes said last (Ok k) = said ≡ Ok (known_value bytes k, ids_seen last)
 Looks bytes said last (Err stop) = Stops said stop
+
+-- memory is wanted only where this is so
+abbrev pub WantsFor : Bool → Stop → Type 0
+WantsFor is (Fault kind) = Unit {0}
+WantsFor is NoMemory = is ≡ true

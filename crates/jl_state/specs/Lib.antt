@@ -5,5 +5,6 @@ pub mod Running
 pub mod Extents
 pub mod KnownTerms
 pub mod Seen
+pub mod Positions
 pub mod Answers
 pub mod Lawful

@@ -1,13 +1,13 @@
 -- What one row does to a state, or its first fault.
-use Rattle.std.specs.Prelude.{ℕ, ◌+◌, ◌==◌, not, List, [], ◌∷◌, ◌++◌, length, slice_set, Option, Some, None, is_some, Result, Ok, Err, nat_lt, if◌then◌else◌}
+use Rattle.std.specs.Prelude.{◌&&◌, ℕ, ◌+◌, ◌==◌, not, List, [], ◌∷◌, ◌++◌, length, slice_set, Option, Some, None, is_some, Result, Ok, Err, nat_lt, if◌then◌else◌}
 use Rattle.jl_base.specs.Results.{◌>>=◌, refuse_if, some_or}
 use Rattle.jl_base.specs.Terms.{Value, Item}
 use Rattle.jl_base.specs.declared.kind.Kind.{Kind}
-use Rattle.jl_base.specs.declared.kind.Kind.TheVariants.{OptionsDiffer, WrongRow, BadEntry, NoTerm, NoGraph, GraphOpen}
+use Rattle.jl_base.specs.declared.kind.Kind.TheVariants.{OptionsDiffer, WrongRow, BadEntry, NoTerm, NoGraph, GraphOpen, EarlyNamespace}
 use Rattle.jl_rows.specs.declared.row.Table.{Table}
 use Rattle.jl_rows.specs.Written.{Ids, Term, StreamOptions, Row}
 use Rattle.jl_rows.specs.Values.{Slots, filled, prefix_text, tail_of}
-use Rattle.jl_rows.specs.Decoder.{is_same, is_graphs, is_wrong_row, stated}
+use Rattle.jl_rows.specs.Decoder.{is_same, is_graphs, is_wrong_row, read_under, stated}
 use Rattle.jl_state.specs.States.{State, table_of, entry_of, slots_in}
 
 -- the last ids once an IRI was read
@@ -39,6 +39,7 @@ looked slots last (Term.Nested s p o) = do
   c ← looked slots b.1 o
   Ok (Value.Nested a.0 b.0 c.0, c.1)
 looked slots last Term.Default = Ok (Value.Default, last)
+looked slots last (Term.Refused k) = Err k
 
 -- a term at a position, or the last one there again
 abbrev pub placed : Slots → Ids → Option Value → Term → Looked
@@ -48,6 +49,7 @@ placed slots last before (Term.Bnode label) = looked slots last (Term.Bnode labe
 placed slots last before (Term.Literal lex e) = looked slots last (Term.Literal lex e)
 placed slots last before (Term.Nested s p o) = looked slots last (Term.Nested s p o)
 placed slots last before Term.Default = looked slots last Term.Default
+placed slots last before (Term.Refused k) = looked slots last (Term.Refused k)
 
 -- the id of an entry by the rule for 0
 abbrev pub id_after : ℕ → ℕ → ℕ
@@ -95,8 +97,9 @@ graph_start_step g t = do
 abbrev pub graph_end_step : State → Stepped
 graph_end_step t = some_or t.open_graph NoGraph >>= λ _. Ok (record t { open_graph = None }, [])
 
-abbrev pub namespace_step : List ℕ → Option Ids → State → Stepped
-namespace_step name i t = do
+abbrev pub namespace_step : StreamOptions → List ℕ → Option Ids → State → Stepped
+namespace_step o name i t = do
+  _ ← refuse_if (o.strict && (o.version == 1)) EarlyNamespace
   ids ← some_or i NoTerm
   iri ← text_at (slots_in t) (ids_after ids t.ids)
   Ok (record t { ids = ids_after ids t.ids }, Item.Namespace name iri ∷ [])
@@ -106,10 +109,10 @@ row_step o (Row.Options p) t = refuse_if (not (is_same o p)) OptionsDiffer >>= �
 row_step o (Row.Entry u id text) t = entry_step u (id_after id (entry_of t u)) text t >>= λ n. Ok (n, [])
 row_step o Row.GraphEnd t = graph_end_step t
 row_step o (Row.GraphStart g) t = graph_start_step g t
-row_step o (Row.Namespace name i) t = namespace_step name i t
+row_step o (Row.Namespace name i) t = namespace_step o name i t
 row_step o (Row.Triple s p ob) t = triple_step o s p ob t
 row_step o (Row.Quad s p ob g) t = quad_step s p ob g t
 
 -- one row
 abbrev pub step : StreamOptions → Row → State → Stepped
-step o r t = refuse_if (is_wrong_row o r) WrongRow >>= λ _. row_step o r t
+step o r t = refuse_if (is_wrong_row o r) WrongRow >>= λ _. row_step o (read_under o r) t

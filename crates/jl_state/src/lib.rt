@@ -9,6 +9,7 @@ mod extent;
 mod known;
 pub mod laws;
 mod look;
+mod position;
 mod state;
 mod step;
 mod stop;

@@ -1,18 +1,20 @@
 //! Terms of a row, resolved: what they mean by where their texts lie.
-ghost use Rattle.std.specs.Prelude.{◌≡◌, ◌<◌, ◌≤◌, ◌^◌, IfOk, OnOk, length};
+ghost use Rattle.std.specs.Prelude.{◌≡◌, ◌<◌, ◌≤◌, ◌^◌, IfErr, IfOk, OnOk, false, length};
 ghost use Rattle.jl_rows.specs.Decoder as decoder;
 ghost use Rattle.jl_rows.specs.Seen as rows;
 ghost use Rattle.jl_state.specs.Steps as steps;
-ghost use Rattle.jl_state.specs.Answers.{Looks};
+ghost use Rattle.jl_state.specs.Answers.{Looks, WantsFor};
 ghost use Rattle.jl_state.specs.KnownTerms.{HasKnown};
 ghost use Rattle.jl_state.specs.Lawful.{maybe_value, HasMaybe, Places};
+ghost use Rattle.jl_state.specs.Positions.{inner_under, is_triple_term, position_of, under};
 ghost use Rattle.jl_state.specs.Seen.{slots_seen, ids_seen, AreTables, IsLeaf};
 
 use crate::known::{Known, KnownThree};
+use crate::position::Position;
 use crate::tables::{LastIds, Lookup};
 use crate::{Extent, Stop};
 use jl_base::Kind;
-use jl_rows::{RawTerm, triple_term_at};
+use jl_rows::{RawTerm, RawTriple, triple_term_at};
 use sqlite_items::Boxed;
 use std::alloc::Global;
 
@@ -29,6 +31,7 @@ impl Lookup<'_> {
             (steps.looked (slots_seen self.now.bytes.now self.now.tables.now) (ids_seen last.old) (rows.term_seen self.now.bytes.now raw.now)) last.new result }
         ensures sound { IfOk result (HasKnown self.now.bytes.now) }
         ensures small { OnOk result (last.new.name ≤ decoder.most_entries) }
+        ensures memory { IfErr result (WantsFor false) }
     {
         match raw {
             RawTerm::Iri(iri) => {
@@ -50,9 +53,10 @@ impl Lookup<'_> {
 
     /// A term at a position: the row's own, or the last one there again. On a stop nothing is promised of both.
     #[inline(always)]
-    pub fn place(
+    pub fn place<const STRICT: bool>(
         &self,
         alloc: Global,
+        x: Position,
         last: &mut LastIds,
         before: &mut Option<Known>,
         raw: &Option<RawTerm>,
@@ -63,10 +67,11 @@ impl Lookup<'_> {
         requires short { length self.now.bytes.now ≤ 2 ^ 30 }
         requires small { last.old.name ≤ decoder.most_entries }
         ensures exact { Places self.now.bytes.now
-            (steps.placed (slots_seen self.now.bytes.now self.now.tables.now) (ids_seen last.old)
-            (maybe_value self.now.bytes.now before.old) (rows.position_seen self.now.bytes.now raw.now)) before.new last.new result }
+            (steps.placed (slots_seen self.now.bytes.now self.now.tables.now) (ids_seen last.old) (maybe_value self.now.bytes.now before.old)
+            (under STRICT (rows.options_seen self.now.bytes.now self.now.options.now) (position_of x) (rows.position_seen self.now.bytes.now raw.now))) before.new last.new result }
         ensures sound { OnOk result (HasMaybe self.now.bytes.now before.new) }
         ensures small { OnOk result (last.new.name ≤ decoder.most_entries) }
+        ensures memory { IfErr result (WantsFor (is_triple_term (rows.position_seen self.now.bytes.now raw.now))) }
     {
         let Some(raw) = raw else {
             if before.is_none() {
@@ -75,9 +80,10 @@ impl Lookup<'_> {
             return Ok(());
         };
         if let RawTerm::Triple(_) = raw {
-            *before = Some(self.term(alloc, last, *raw)?);
+            *before = Some(self.term::<STRICT>(alloc, x, last, *raw)?);
             return Ok(());
         }
+        self.stands::<STRICT>(x, raw)?;
         *before = Some(self.leaf(last, raw)?);
         Ok(())
     }
@@ -85,41 +91,77 @@ impl Lookup<'_> {
     /// A term that must be set, with the last ids behind it. A triple term takes a box for its terms; nothing else takes
     /// memory.
     #[cycle(look)]
-    pub fn term(&self, alloc: Global, last: &mut LastIds, raw: RawTerm) -> Result<Known, Stop>
+    pub fn term<const STRICT: bool>(
+        &self,
+        alloc: Global,
+        x: Position,
+        last: &mut LastIds,
+        raw: RawTerm,
+    ) -> Result<Known, Stop>
         requires tables { AreTables self.now.bytes.now self.now.tables.now }
         requires inside { rows.HasTerm self.now.bytes.now raw }
         requires short { length self.now.bytes.now ≤ 2 ^ 30 }
         requires small { last.old.name ≤ decoder.most_entries }
         ensures exact { Looks self.now.bytes.now
-            (steps.looked (slots_seen self.now.bytes.now self.now.tables.now) (ids_seen last.old) (rows.term_seen self.now.bytes.now raw)) last.new result }
+            (steps.looked (slots_seen self.now.bytes.now self.now.tables.now) (ids_seen last.old)
+            (under STRICT (rows.options_seen self.now.bytes.now self.now.options.now) (position_of x) (rows.term_seen self.now.bytes.now raw))) last.new result }
         ensures sound { IfOk result (HasKnown self.now.bytes.now) }
         ensures small { OnOk result (last.new.name ≤ decoder.most_entries) }
+        ensures memory { IfErr result (WantsFor (is_triple_term (rows.term_seen self.now.bytes.now raw))) }
     {
+        self.stands::<STRICT>(x, &raw)?;
         let RawTerm::Triple(span) = raw else {
             return self.leaf(last, &raw);
         };
-        let terms = triple_term_at(self.bytes, span);
-        let s = self.inner(alloc, last, terms.s)?;
-        let p = self.inner(alloc, last, terms.p)?;
-        let o = self.inner(alloc, last, terms.o)?;
+        self.three::<STRICT>(alloc, last, &triple_term_at(self.bytes, span))
+    }
+
+    // The terms of a triple term that may stand where it does.
+    #[cycle(look)]
+    fn three<const STRICT: bool>(
+        &self,
+        alloc: Global,
+        last: &mut LastIds,
+        terms: &RawTriple,
+    ) -> Result<Known, Stop>
+        requires tables { AreTables self.now.bytes.now self.now.tables.now }
+        requires inside { rows.HasTriple self.now.bytes.now terms.now }
+        requires short { length self.now.bytes.now ≤ 2 ^ 30 }
+        requires small { last.old.name ≤ decoder.most_entries }
+        ensures exact { Looks self.now.bytes.now
+            (steps.looked (slots_seen self.now.bytes.now self.now.tables.now) (ids_seen last.old)
+            (inner_under STRICT (rows.options_seen self.now.bytes.now self.now.options.now) (rows.nested_seen self.now.bytes.now terms.now))) last.new result }
+        ensures sound { IfOk result (HasKnown self.now.bytes.now) }
+        ensures small { OnOk result (last.new.name ≤ decoder.most_entries) }
+    {
+        let s = self.inner::<STRICT>(alloc, Position::Subject, last, terms.s)?;
+        let p = self.inner::<STRICT>(alloc, Position::Predicate, last, terms.p)?;
+        let o = self.inner::<STRICT>(alloc, Position::Object, last, terms.o)?;
         Ok(Known::Triple(Boxed::new(alloc, KnownThree { s, p, o })?))
     }
 
     // A term inside a triple term, which must be set.
     #[cycle(look)]
-    fn inner(&self, alloc: Global, last: &mut LastIds, raw: Option<RawTerm>) -> Result<Known, Stop>
+    fn inner<const STRICT: bool>(
+        &self,
+        alloc: Global,
+        x: Position,
+        last: &mut LastIds,
+        raw: Option<RawTerm>,
+    ) -> Result<Known, Stop>
         requires tables { AreTables self.now.bytes.now self.now.tables.now }
         requires inside { rows.HasPosition self.now.bytes.now raw }
         requires short { length self.now.bytes.now ≤ 2 ^ 30 }
         requires small { last.old.name ≤ decoder.most_entries }
         ensures exact { Looks self.now.bytes.now
-            (steps.looked (slots_seen self.now.bytes.now self.now.tables.now) (ids_seen last.old) (rows.position_seen self.now.bytes.now raw)) last.new result }
+            (steps.looked (slots_seen self.now.bytes.now self.now.tables.now) (ids_seen last.old)
+            (under STRICT (rows.options_seen self.now.bytes.now self.now.options.now) (position_of x) (rows.position_seen self.now.bytes.now raw))) last.new result }
         ensures sound { IfOk result (HasKnown self.now.bytes.now) }
         ensures small { OnOk result (last.new.name ≤ decoder.most_entries) }
     {
         let Some(raw) = raw else {
             return Err(Stop::Fault(Kind::NoTerm));
         };
-        self.term(alloc, last, raw)
+        self.term::<STRICT>(alloc, x, last, raw)
     }
 }

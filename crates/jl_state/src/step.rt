@@ -1,13 +1,17 @@
 //! One row's step from a state.
-ghost use Rattle.std.specs.Prelude.{◌≡◌, ◌≤◌, ◌^◌, IfOk, OnOk, length, true, false, ◌==◌, ◌&&◌, is_none};
+ghost use Rattle.std.specs.Prelude.{◌≡◌, ◌≤◌, ◌^◌, IfErr, IfOk, OnOk, length, true, false, ◌==◌, ◌&&◌, is_none};
 ghost use Rattle.std.specs.Option.{option_map};
 ghost use Rattle.jl_base.specs.Spans.{IsInside, text_of};
 ghost use Rattle.jl_rows.specs.Decoder as decoder;
 ghost use Rattle.jl_rows.specs.Seen as rows;
+ghost use Rattle.jl_rows.specs.Values as values;
 ghost use Rattle.jl_rows.specs.Written as written;
 ghost use Rattle.jl_state.specs.Steps as steps;
+ghost use Rattle.jl_state.specs.Answers.{WantsFor};
 ghost use Rattle.jl_state.specs.Lawful.{state_seen, IsLawful, Steps, HasStated};
+ghost use Rattle.jl_state.specs.Positions.{has_triple_term, under};
 
+use crate::position::Position;
 use crate::state::enter;
 use crate::tables::Lookup;
 use crate::{Extent, State, Stop};
@@ -38,6 +42,7 @@ impl State {
         ensures lawful { OnOk result (IsLawful bytes.now self.new) }
         ensures options { self.new.options ≡ self.old.options }
         ensures stated { IfOk result (HasStated bytes.now) }
+        ensures memory { IfErr result (WantsFor false) }
     {
         match table {
             Table::Name => enter(
@@ -72,16 +77,25 @@ impl State {
         self.options.physical == 3 && self.open_graph.is_none()
     }
 
-    fn triple(&mut self, alloc: Global, bytes: &[u8], t: &RawTriple) -> Result<Stated, Stop>
+    fn triple<const STRICT: bool>(
+        &mut self,
+        alloc: Global,
+        bytes: &[u8],
+        t: &RawTriple,
+    ) -> Result<Stated, Stop>
         requires lawful { IsLawful bytes.now self.old }
         requires inside { rows.HasTriple bytes.now t.now }
         requires form { decoder.is_quads (rows.options_seen bytes.now self.old.options) ≡ false }
         requires short { length bytes.now ≤ 2 ^ 30 }
         ensures exact { Steps bytes.now (rows.options_seen bytes.now self.old.options)
-            (steps.row_step (rows.options_seen bytes.now self.old.options) (rows.row_seen bytes.now (Row.Triple t.now)) (state_seen bytes.now self.old)) self.new result }
+            (steps.triple_step (rows.options_seen bytes.now self.old.options)
+            (under STRICT (rows.options_seen bytes.now self.old.options) values.Subject (rows.position_seen bytes.now t.now.s))
+            (under STRICT (rows.options_seen bytes.now self.old.options) values.Predicate (rows.position_seen bytes.now t.now.p))
+            (under STRICT (rows.options_seen bytes.now self.old.options) values.Object (rows.position_seen bytes.now t.now.o)) (state_seen bytes.now self.old)) self.new result }
         ensures lawful { OnOk result (IsLawful bytes.now self.new) }
         ensures options { self.new.options ≡ self.old.options }
         ensures stated { IfOk result (HasStated bytes.now) }
+        ensures memory { IfErr result (WantsFor (has_triple_term (rows.row_seen bytes.now (Row.Triple t.now)))) }
     {
         if self.lacks_graph() {
             return Err(Stop::Fault(Kind::NoGraph));
@@ -89,36 +103,90 @@ impl State {
         let lookup = Lookup {
             bytes,
             tables: &self.tables,
+            options: &self.options,
         };
-        lookup.place(alloc, &mut self.last, &mut self.subject, &t.s)?;
-        lookup.place(alloc, &mut self.last, &mut self.predicate, &t.p)?;
-        lookup.place(alloc, &mut self.last, &mut self.object, &t.o)?;
+        lookup.place::<STRICT>(
+            alloc,
+            Position::Subject,
+            &mut self.last,
+            &mut self.subject,
+            &t.s,
+        )?;
+        lookup.place::<STRICT>(
+            alloc,
+            Position::Predicate,
+            &mut self.last,
+            &mut self.predicate,
+            &t.p,
+        )?;
+        lookup.place::<STRICT>(
+            alloc,
+            Position::Object,
+            &mut self.last,
+            &mut self.object,
+            &t.o,
+        )?;
         Ok(Stated::Statement)
     }
 
-    fn quad(&mut self, alloc: Global, bytes: &[u8], t: &RawQuad) -> Result<Stated, Stop>
+    fn quad<const STRICT: bool>(
+        &mut self,
+        alloc: Global,
+        bytes: &[u8],
+        t: &RawQuad,
+    ) -> Result<Stated, Stop>
         requires lawful { IsLawful bytes.now self.old }
         requires inside { rows.HasRow bytes.now (Row.Quad t.now) }
         requires form { decoder.is_quads (rows.options_seen bytes.now self.old.options) ≡ true }
         requires short { length bytes.now ≤ 2 ^ 30 }
         ensures exact { Steps bytes.now (rows.options_seen bytes.now self.old.options)
-            (steps.row_step (rows.options_seen bytes.now self.old.options) (rows.row_seen bytes.now (Row.Quad t.now)) (state_seen bytes.now self.old)) self.new result }
+            (steps.quad_step
+            (under STRICT (rows.options_seen bytes.now self.old.options) values.Subject (rows.position_seen bytes.now t.now.s))
+            (under STRICT (rows.options_seen bytes.now self.old.options) values.Predicate (rows.position_seen bytes.now t.now.p))
+            (under STRICT (rows.options_seen bytes.now self.old.options) values.Object (rows.position_seen bytes.now t.now.o))
+            (under STRICT (rows.options_seen bytes.now self.old.options) values.Graph (rows.position_seen bytes.now t.now.g)) (state_seen bytes.now self.old)) self.new result }
         ensures lawful { OnOk result (IsLawful bytes.now self.new) }
         ensures options { self.new.options ≡ self.old.options }
         ensures stated { IfOk result (HasStated bytes.now) }
+        ensures memory { IfErr result (WantsFor (has_triple_term (rows.row_seen bytes.now (Row.Quad t.now)))) }
     {
         let lookup = Lookup {
             bytes,
             tables: &self.tables,
+            options: &self.options,
         };
-        lookup.place(alloc, &mut self.last, &mut self.subject, &t.s)?;
-        lookup.place(alloc, &mut self.last, &mut self.predicate, &t.p)?;
-        lookup.place(alloc, &mut self.last, &mut self.object, &t.o)?;
-        lookup.place(alloc, &mut self.last, &mut self.graph, &t.g)?;
+        lookup.place::<STRICT>(
+            alloc,
+            Position::Subject,
+            &mut self.last,
+            &mut self.subject,
+            &t.s,
+        )?;
+        lookup.place::<STRICT>(
+            alloc,
+            Position::Predicate,
+            &mut self.last,
+            &mut self.predicate,
+            &t.p,
+        )?;
+        lookup.place::<STRICT>(
+            alloc,
+            Position::Object,
+            &mut self.last,
+            &mut self.object,
+            &t.o,
+        )?;
+        lookup.place::<STRICT>(
+            alloc,
+            Position::Graph,
+            &mut self.last,
+            &mut self.graph,
+            &t.g,
+        )?;
         Ok(Stated::Statement)
     }
 
-    fn graph_start(
+    fn graph_start<const STRICT: bool>(
         &mut self,
         alloc: Global,
         bytes: &[u8],
@@ -128,10 +196,11 @@ impl State {
         requires inside { rows.HasPosition bytes.now g }
         requires short { length bytes.now ≤ 2 ^ 30 }
         ensures exact { Steps bytes.now (rows.options_seen bytes.now self.old.options)
-            (steps.row_step (rows.options_seen bytes.now self.old.options) (rows.row_seen bytes.now (Row.GraphStart g)) (state_seen bytes.now self.old)) self.new result }
+            (steps.graph_start_step (under STRICT (rows.options_seen bytes.now self.old.options) values.Graph (rows.position_seen bytes.now g)) (state_seen bytes.now self.old)) self.new result }
         ensures lawful { OnOk result (IsLawful bytes.now self.new) }
         ensures options { self.new.options ≡ self.old.options }
         ensures stated { IfOk result (HasStated bytes.now) }
+        ensures memory { IfErr result (WantsFor (has_triple_term (rows.row_seen bytes.now (Row.GraphStart g)))) }
     {
         if self.open_graph.is_some() {
             return Err(Stop::Fault(Kind::GraphOpen));
@@ -142,8 +211,9 @@ impl State {
         let lookup = Lookup {
             bytes,
             tables: &self.tables,
+            options: &self.options,
         };
-        let graph = lookup.term(alloc, &mut self.last, g)?;
+        let graph = lookup.term::<STRICT>(alloc, Position::Graph, &mut self.last, g)?;
         self.open_graph = Some(graph);
         Ok(Stated::Nothing)
     }
@@ -156,6 +226,7 @@ impl State {
         ensures lawful { OnOk result (IsLawful bytes.now self.new) }
         ensures options { self.new.options ≡ self.old.options }
         ensures stated { IfOk result (HasStated bytes.now) }
+        ensures memory { IfErr result (WantsFor false) }
     {
         if self.open_graph.is_none() {
             return Err(Stop::Fault(Kind::NoGraph));
@@ -173,13 +244,18 @@ impl State {
         ensures lawful { OnOk result (IsLawful bytes.now self.new) }
         ensures options { self.new.options ≡ self.old.options }
         ensures stated { IfOk result (HasStated bytes.now) }
+        ensures memory { IfErr result (WantsFor false) }
     {
+        if self.options.strict && self.options.version == 1 {
+            return Err(Stop::Fault(Kind::EarlyNamespace));
+        }
         let Some(iri) = iri else {
             return Err(Stop::Fault(Kind::NoTerm));
         };
         let lookup = Lookup {
             bytes,
             tables: &self.tables,
+            options: &self.options,
         };
         let ids = self.last.after(iri);
         let (prefix, iri) = lookup.iri(ids)?;
@@ -212,6 +288,7 @@ impl State {
         ensures lawful { OnOk result (IsLawful bytes.now self.new) }
         ensures options { self.new.options ≡ self.old.options }
         ensures stated { IfOk result (HasStated bytes.now) }
+        ensures memory { IfErr result (WantsFor (has_triple_term (rows.row_seen bytes.now row.now))) }
     {
         if self.is_wrong_row(bytes, row) {
             return Err(Stop::Fault(Kind::WrongRow));
@@ -224,9 +301,24 @@ impl State {
                     Err(Stop::Fault(Kind::OptionsDiffer))
                 }
             }
-            Row::Triple(t) => self.triple(alloc, bytes, t),
-            Row::Quad(t) => self.quad(alloc, bytes, t),
-            Row::GraphStart(g) => self.graph_start(alloc, bytes, *g),
+            Row::Triple(t) => {
+                if self.options.strict {
+                    return self.triple::<true>(alloc, bytes, t);
+                }
+                self.triple::<false>(alloc, bytes, t)
+            }
+            Row::Quad(t) => {
+                if self.options.strict {
+                    return self.quad::<true>(alloc, bytes, t);
+                }
+                self.quad::<false>(alloc, bytes, t)
+            }
+            Row::GraphStart(g) => {
+                if self.options.strict {
+                    return self.graph_start::<true>(alloc, bytes, *g);
+                }
+                self.graph_start::<false>(alloc, bytes, *g)
+            }
             Row::GraphEnd => self.graph_end(bytes),
             Row::Namespace { name, iri } => self.namespace(bytes, *name, *iri),
             Row::Entry { table, id, text } => self.enter(bytes, *table, *id, *text),

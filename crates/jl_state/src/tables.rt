@@ -13,7 +13,7 @@ use crate::Extent;
 use crate::known::KnownTail;
 use crate::tag::is_tag;
 use jl_base::Kind;
-use jl_rows::{RawIri, RawTail};
+use jl_rows::{Options, RawIri, RawTail};
 
 /// The slots of the three lookup tables, by their ids; no slot of the id 0 is ever filled. Eight bytes a slot.
 #[derive(Debug, Drop)]
@@ -30,11 +30,12 @@ pub struct LastIds {
     pub name: u64,
 }
 
-/// The tables over the bytes in which their texts lie.
+/// The tables over the bytes in which their texts lie, and the options under which terms are looked up.
 #[derive(Clone, Copy)]
 pub(crate) struct Lookup<'a> {
     pub bytes: &'a [u8],
     pub tables: &'a Tables,
+    pub options: &'a Options,
 }
 
 impl Lookup<'_> {

@@ -37,6 +37,7 @@ fn outcome<'a>(
         datatypes: 8,
         logical: 0,
         version: 1,
+        strict: false,
     };
     let mut state = State::opening(alloc, rows, &options)?;
     let mut stated = 0;

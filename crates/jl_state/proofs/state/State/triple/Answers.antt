@@ -1,4 +1,10 @@
+use Rattle.std.proofs.Common.{Option}
 use Rattle.std.proofs.lemmas.Result.{err_from_is_err_and}
+use Rattle.jl_rows.specs.declared.row.RawTerm.{RawTerm}
+use Rattle.jl_rows.specs.Written.{Term}
+use Rattle.jl_rows.specs.Values.{Position}
+use Rattle.jl_state.specs.Positions.{under}
+use Rattle.jl_state.specs.contracts.state.State.triple.{STRICT-type}
 use Rattle.jl_rows.specs.Seen.{options_seen, position_seen}
 use Rattle.jl_state.specs.Seen.{ids_seen}
 use Rattle.jl_state.specs.Lawful.{state_seen, maybe_value}
@@ -6,14 +12,21 @@ use Rattle.jl_state.proofs.Statements.{triple_one, triple_two, triple_three, gra
 use Rattle.jl_state.proofs.state.State.triple.Goals as goal
 
 pub returns-in_err-place-2-clause-exact : goal.returns-in_err-place-2-clause-exact
-returns-in_err-place-2-clause-exact c =
+returns-in_err-place-2-clause-exact g c =
+    let o = options_seen c.args.bytes.now c.args.self.now.options in
+    let at : Position → Option RawTerm → Term = λ x t. under (STRICT-type (denote.Param.number g.row.STRICT)) o x (position_seen c.args.bytes.now t) in
     let p = err_from_is_err_and c.from_residual-in_err-place-2.result c.from_residual-in_err-place-2.ensures.1 in
-    rw (p.1, p.2) (stops_on _ _ _ (λ k e. triple_one (options_seen c.args.bytes.now c.args.self.now.options) (state_seen c.args.bytes.now c.args.self.now) (position_seen c.args.bytes.now c.args.t.now.s) (position_seen c.args.bytes.now c.args.t.now.p) (position_seen c.args.bytes.now c.args.t.now.o) (graph_is_there c.args.bytes.now c.args.self.now c.if-lacks_graph.false c.lacks_graph.ensures) (maybe_value c.args.bytes.now c.place.new.before) (ids_seen c.place.new.last) k c.in_ok-place.ensures.exact e) c.in_err-place-2.ensures.exact)
+    rw (p.1, p.2) (stops_on _ _ _ (λ k e. triple_one o (state_seen c.args.bytes.now c.args.self.now) (at Position.Subject c.args.t.now.s) (at Position.Predicate c.args.t.now.p) (at Position.Object c.args.t.now.o) (graph_is_there c.args.bytes.now c.args.self.now c.if-lacks_graph.false c.lacks_graph.ensures) (maybe_value c.args.bytes.now c.place.new.before) (ids_seen c.place.new.last) k c.in_ok-place.ensures.exact e) c.in_err-place-2.ensures.exact)
 
 pub returns-in_err-place-3-clause-exact : goal.returns-in_err-place-3-clause-exact
-returns-in_err-place-3-clause-exact c =
+returns-in_err-place-3-clause-exact g c =
+    let o = options_seen c.args.bytes.now c.args.self.now.options in
+    let at : Position → Option RawTerm → Term = λ x t. under (STRICT-type (denote.Param.number g.row.STRICT)) o x (position_seen c.args.bytes.now t) in
     let p = err_from_is_err_and c.from_residual-in_err-place-3.result c.from_residual-in_err-place-3.ensures.1 in
-    rw (p.1, p.2) (stops_on _ _ _ (λ k e. triple_two (options_seen c.args.bytes.now c.args.self.now.options) (state_seen c.args.bytes.now c.args.self.now) (position_seen c.args.bytes.now c.args.t.now.s) (position_seen c.args.bytes.now c.args.t.now.p) (position_seen c.args.bytes.now c.args.t.now.o) (graph_is_there c.args.bytes.now c.args.self.now c.if-lacks_graph.false c.lacks_graph.ensures) (maybe_value c.args.bytes.now c.place.new.before) (maybe_value c.args.bytes.now c.place-2.new.before) (ids_seen c.place.new.last) (ids_seen c.place-2.new.last) k c.in_ok-place.ensures.exact c.in_ok-place-2.ensures.exact e) c.in_err-place-3.ensures.exact)
+    rw (p.1, p.2) (stops_on _ _ _ (λ k e. triple_two o (state_seen c.args.bytes.now c.args.self.now) (at Position.Subject c.args.t.now.s) (at Position.Predicate c.args.t.now.p) (at Position.Object c.args.t.now.o) (graph_is_there c.args.bytes.now c.args.self.now c.if-lacks_graph.false c.lacks_graph.ensures) (maybe_value c.args.bytes.now c.place.new.before) (maybe_value c.args.bytes.now c.place-2.new.before) (ids_seen c.place.new.last) (ids_seen c.place-2.new.last) k c.in_ok-place.ensures.exact c.in_ok-place-2.ensures.exact e) c.in_err-place-3.ensures.exact)
 
 pub returns-clause-exact : goal.returns-clause-exact
-returns-clause-exact c = triple_three (options_seen c.args.bytes.now c.args.self.now.options) (state_seen c.args.bytes.now c.args.self.now) (position_seen c.args.bytes.now c.args.t.now.s) (position_seen c.args.bytes.now c.args.t.now.p) (position_seen c.args.bytes.now c.args.t.now.o) (graph_is_there c.args.bytes.now c.args.self.now c.if-lacks_graph.false c.lacks_graph.ensures) (maybe_value c.args.bytes.now c.place.new.before) (maybe_value c.args.bytes.now c.place-2.new.before) (maybe_value c.args.bytes.now c.place-3.new.before) (ids_seen c.place.new.last) (ids_seen c.place-2.new.last) (ids_seen c.place-3.new.last) c.requires.form c.in_ok-place.ensures.exact c.in_ok-place-2.ensures.exact c.in_ok-place-3.ensures.exact
+returns-clause-exact g c =
+    let o = options_seen c.args.bytes.now c.args.self.now.options in
+    let at : Position → Option RawTerm → Term = λ x t. under (STRICT-type (denote.Param.number g.row.STRICT)) o x (position_seen c.args.bytes.now t) in
+    triple_three o (state_seen c.args.bytes.now c.args.self.now) (at Position.Subject c.args.t.now.s) (at Position.Predicate c.args.t.now.p) (at Position.Object c.args.t.now.o) (graph_is_there c.args.bytes.now c.args.self.now c.if-lacks_graph.false c.lacks_graph.ensures) (maybe_value c.args.bytes.now c.place.new.before) (maybe_value c.args.bytes.now c.place-2.new.before) (maybe_value c.args.bytes.now c.place-3.new.before) (ids_seen c.place.new.last) (ids_seen c.place-2.new.last) (ids_seen c.place-3.new.last) c.requires.form c.in_ok-place.ensures.exact c.in_ok-place-2.ensures.exact c.in_ok-place-3.ensures.exact

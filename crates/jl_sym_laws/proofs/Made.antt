@@ -133,6 +133,7 @@ refs_made r (Term.Bnode label) p = p
 refs_made r (Term.Literal lex e) p = p
 refs_made r (Term.Nested x y z) p = refs_made (refs_after y (refs_after x r)) z (refs_made (refs_after x r) y (refs_made r x p))
 refs_made r Term.Default p = p
+refs_made r (Term.Refused k) p = p
 
 tag_made : (d : Demand) (b : Bool) → 0 ≤ d.moment → IsMadeNeed d.need → AreMadeDemands 0 (cond b [] (d ∷ []))
 tag_made d true le h = tt
@@ -156,6 +157,7 @@ term_made place r (Term.Nested x y z) p =
     (demands_both 0 0 (term_demands place second y) (term_demands place third z) from_start (term_made place second y (refs_made r x p)) (term_within 0 place second y)
     (term_made place third z (refs_made second y (refs_made r x p))))
 term_made place r Term.Default p = tt
+term_made place r (Term.Refused k) p = (from_start, tt, tt)
 
 set_made : (place : Place) (x : Position) (t : Term) → Timed (with_left x (left_by t) (of_term place t)) → IsMade (with_left x (left_by t) (of_term place t))
 set_made place Position.Subject t h = record { timed = h; writes = tt; demands = term_made place incoming t made_incoming; prefix = refs_made incoming t made_incoming }
@@ -170,6 +172,7 @@ place_made place x (Term.Bnode label) h = set_made place x (Term.Bnode label) h
 place_made place x (Term.Literal lex e) h = set_made place x (Term.Literal lex e) h
 place_made place x (Term.Nested a b c) h = set_made place x (Term.Nested a b c) h
 place_made place x Term.Default h = set_made place x Term.Default h
+place_made place x (Term.Refused k) h = set_made place x (Term.Refused k) h
 
 entry_made : (place : Place) (t : Table) (id : Id) (text : List ℕ) → Timed (of_entry place t id text) → IsNext id → IsMade (of_entry place t id text)
 entry_made place Table.Name id text h next = record { timed = h; writes = (from_start, next, tt); demands = (from_start, next, tt); prefix = made_incoming }

@@ -1,15 +1,15 @@
 -- A row is its small steps, one after another; so the summary of a row acts as the decoder's step does.
-use Rattle.std.proofs.Common.{◌≡◌, ℕ, Bool, true, false, not, List, [], ◌∷◌, Option, Some, None, is_some, Result, Ok, Err, refl, ap, ◌∙◌, cond}
+use Rattle.std.proofs.Common.{◌≡◌, ◌==◌, ◌&&◌, ℕ, Bool, true, false, not, List, [], ◌∷◌, Option, Some, None, is_some, Result, Ok, Err, refl, ap, ◌∙◌, cond}
 use Rattle.jl_base.specs.Results.{◌>>=◌, refuse_if, some_or}
 use Rattle.jl_base.specs.Terms.{Value, Item}
 use Rattle.jl_base.specs.declared.kind.Kind.{Kind}
-use Rattle.jl_base.specs.declared.kind.Kind.TheVariants.{OptionsDiffer, WrongRow, NoGraph, GraphOpen}
+use Rattle.jl_base.specs.declared.kind.Kind.TheVariants.{OptionsDiffer, WrongRow, NoTerm, NoGraph, GraphOpen, EarlyNamespace}
 use Rattle.jl_base.specs.declared.place.Place.{Place}
 use Rattle.jl_base.specs.declared.place.Fault.{Fault}
 use Rattle.jl_rows.specs.Written.{Ids, Term, StreamOptions, Row}
 use Rattle.jl_rows.specs.Files.{Placed}
 use Rattle.jl_rows.specs.Values.{Position}
-use Rattle.jl_rows.specs.Decoder.{is_same, is_graphs, is_wrong_row, stated}
+use Rattle.jl_rows.specs.Decoder.{is_same, is_graphs, is_wrong_row, read_under, stated}
 use Rattle.jl_state.specs.States.{State, entry_of, slots_in}
 use Rattle.jl_state.specs.Steps.{Stepped, Looked, ids_after, text_at, looked, placed, id_after, entry_step, row_step, step}
 use Rattle.jl_sym_laws.specs.Summaries.{unit}
@@ -98,8 +98,11 @@ row_is o (Row.Options p) s = options_row (is_same o p) s
 row_is o (Row.Entry t id text) s = entry_row (entry_step t (id_after id (entry_of s t)) text s)
 row_is o Row.GraphEnd s = graph_end_row s.open_graph s
 row_is o (Row.GraphStart g) s = graph_start_row (is_some s.open_graph) (looked (slots_in s) s.ids g) s
-row_is o (Row.Namespace name None) s = refl
-row_is o (Row.Namespace name (Some i)) s = namespace_row (text_at (slots_in s) (ids_after i s.ids)) name (record s { ids = ids_after i s.ids })
+row_is o (Row.Namespace name None) s = refused_or (o.strict && (o.version == 1)) EarlyNamespace (Small.Refuses NoTerm ∷ []) s (Err NoTerm) refl
+row_is o (Row.Namespace name (Some i)) s =
+    let ids = ids_after i s.ids in
+    refused_or (o.strict && (o.version == 1)) EarlyNamespace (Small.Reads i ∷ Small.Ends ∷ []) s (text_at (slots_in s) ids >>= λ iri. Ok (record s { ids = ids }, Item.Namespace name iri ∷ []))
+    (namespace_row (text_at (slots_in s) ids) name (record s { ids = ids }))
 row_is o (Row.Triple x y z) s = triple_row (is_graphs o) x y z s
 row_is o (Row.Quad x y z w) s =
     then_placed (placed (slots_in s) s.ids s.subject x) Position.Subject s _ _ (λ a.
@@ -108,7 +111,7 @@ row_is o (Row.Quad x y z w) s =
     then_placed (placed (slots_in s) c.1 s.graph w) Position.Graph (with_term Position.Object c.0 c.1 (with_term Position.Predicate b.0 b.1 (with_term Position.Subject a.0 a.1 s))) _ _ (λ d. refl))))
 
 pub step_is : (o : StreamOptions) (r : Row) (s : State) → all_steps (smalls o r) s ≡ state_of (step o r s)
-step_is o r s = refused_or (is_wrong_row o r) WrongRow (smalls_of o r) s (row_step o r s) (row_is o r s)
+step_is o r s = refused_or (is_wrong_row o r) WrongRow (smalls_of o (read_under o r)) s (row_step o (read_under o r) s) (row_is o (read_under o r) s)
 
 -- the summaries of small steps, one after another
 then_all : (place : Place) (r : Result State Kind) (f : State → Result State Fault) (g : State → Result State Kind)

@@ -55,6 +55,7 @@ placed_sums place x (Term.Bnode label) s = with_as x (left_by (Term.Bnode label)
 placed_sums place x (Term.Literal lex e) s = with_as x (left_by (Term.Literal lex e)) place (Term.Literal lex e) s ∙ sym (set_at place x (Term.Literal lex e) s)
 placed_sums place x (Term.Nested a b c) s = with_as x (left_by (Term.Nested a b c)) place (Term.Nested a b c) s ∙ sym (set_at place x (Term.Nested a b c) s)
 placed_sums place x Term.Default s = with_as x (left_by Term.Default) place Term.Default s ∙ sym (set_at place x Term.Default s)
+placed_sums place x (Term.Refused k) s = with_as x (left_by (Term.Refused k)) place (Term.Refused k) s ∙ sym (set_at place x (Term.Refused k) s)
 
 -- a graph that is open, or not
 in_graph : (place : Place) (g : Option Value) (x y : State) → y ≡ x
@@ -138,6 +139,7 @@ term_within rows place r (Term.Nested x y z) =
     within_both rows (term_demands place r x) _ (term_within rows place r x)
     (within_both rows (term_demands place (refs_after x r) y) _ (term_within rows place (refs_after x r) y) (term_within rows place (refs_after y (refs_after x r)) z))
 term_within rows place r Term.Default = tt
+term_within rows place r (Term.Refused k) = (at_once rows, tt)
 
 pub unit_timed : Timed unit
 unit_timed = record { writes = tt; demands = tt; subject = tt; predicate = tt; object = tt; graph = tt; open_graph = tt }
@@ -155,6 +157,7 @@ place_timed place x (Term.Bnode label) = set_timed place x (Term.Bnode label)
 place_timed place x (Term.Literal lex e) = set_timed place x (Term.Literal lex e)
 place_timed place x (Term.Nested a b c) = set_timed place x (Term.Nested a b c)
 place_timed place x Term.Default = set_timed place x Term.Default
+place_timed place x (Term.Refused k) = set_timed place x (Term.Refused k)
 
 entry_timed : (place : Place) (t : Table) (id : Id) (text : List ℕ) → 0 < 1 → Timed (of_entry place t id text)
 entry_timed place Table.Name id text p = record { writes = (p, tt); demands = (at_once 1, tt); subject = tt; predicate = tt; object = tt; graph = tt; open_graph = tt }

@@ -133,6 +133,7 @@ term_sums place s r (Term.Nested x y z) =
     ∙ ap (λ (u : Option Fault). settled {A = Value × Ids} (option_or (unmet s [] (term_demands place r x)) u) (said_of s r (Term.Nested x y z))) (sym (unmet_both s [] (term_demands place second y) (term_demands place third z)))
     ∙ ap (λ (u : Option Fault). settled {A = Value × Ids} u (said_of s r (Term.Nested x y z))) (sym (unmet_both s [] (term_demands place r x) (term_demands place second y ++ term_demands place third z)))
 term_sums place s r Term.Default = refl
+term_sums place s r (Term.Refused k) = refl
 
 -- a term that a row sets
 pub set_sums : (place : Place) (s : State) (t : Term) → at_place place (looked (slots_in s) s.ids t) ≡ settled (unmet s [] (term_demands place incoming t)) (said_of s incoming t)

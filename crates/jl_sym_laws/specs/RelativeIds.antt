@@ -48,6 +48,7 @@ refs_after (Term.Bnode label) r = r
 refs_after (Term.Literal lex e) r = r
 refs_after (Term.Nested s p o) r = refs_after o (refs_after p (refs_after s r))
 refs_after Term.Default r = r
+refs_after (Term.Refused k) r = r
 
 -- the id of an entry, by the rule for 0
 abbrev pub entry_written : ℕ → Id

@@ -1,14 +1,14 @@
 -- A row as small steps, of which each does one thing to a state, and the summary of each.
-use Rattle.std.specs.Prelude.{ℕ, List, [], ◌∷◌, ◌++◌, Some, None, is_some, Result, Ok, Err, if◌then◌else◌}
+use Rattle.std.specs.Prelude.{ℕ, ◌==◌, ◌&&◌, List, [], ◌∷◌, ◌++◌, Some, None, is_some, Result, Ok, Err, if◌then◌else◌}
 use Rattle.jl_base.specs.Results.{◌>>=◌, refuse_if, some_or}
 use Rattle.jl_base.specs.Terms.{Value}
 use Rattle.jl_base.specs.declared.kind.Kind.{Kind}
-use Rattle.jl_base.specs.declared.kind.Kind.TheVariants.{OptionsDiffer, WrongRow, BadEntry, NoEntry, NoTerm, NoGraph, GraphOpen, BadLangtag}
+use Rattle.jl_base.specs.declared.kind.Kind.TheVariants.{OptionsDiffer, WrongRow, BadEntry, NoEntry, NoTerm, NoGraph, GraphOpen, BadLangtag, EarlyNamespace}
 use Rattle.jl_base.specs.declared.place.Place.{Place}
 use Rattle.jl_rows.specs.declared.row.Table.{Table}
 use Rattle.jl_rows.specs.Written.{Ids, Ending, Term, StreamOptions, Row}
 use Rattle.jl_rows.specs.Values.{Position, is_tag}
-use Rattle.jl_rows.specs.Decoder.{is_same, is_graphs, is_wrong_row}
+use Rattle.jl_rows.specs.Decoder.{is_same, is_graphs, is_wrong_row, read_under}
 use Rattle.jl_state.specs.States.{State, entry_of, term_of, slots_in}
 use Rattle.jl_state.specs.Steps.{ids_after, text_at, looked, placed, id_after, entry_step}
 use Rattle.jl_sym_laws.specs.RelativeIds.{Id, Refs, incoming, refs_following, refs_written, refs_after, entry_written}
@@ -37,8 +37,8 @@ smalls_of o (Row.Options p) = if is_same o p then Small.Ends ∷ [] else Small.R
 smalls_of o (Row.Entry t id text) = Small.Entry t id text ∷ []
 smalls_of o Row.GraphEnd = Small.Closes ∷ Small.Ends ∷ []
 smalls_of o (Row.GraphStart g) = Small.Opens g ∷ Small.Ends ∷ []
-smalls_of o (Row.Namespace name None) = Small.Refuses NoTerm ∷ []
-smalls_of o (Row.Namespace name (Some i)) = Small.Reads i ∷ Small.Ends ∷ []
+smalls_of o (Row.Namespace name None) = if o.strict && (o.version == 1) then Small.Refuses EarlyNamespace ∷ [] else Small.Refuses NoTerm ∷ []
+smalls_of o (Row.Namespace name (Some i)) = if o.strict && (o.version == 1) then Small.Refuses EarlyNamespace ∷ [] else Small.Reads i ∷ Small.Ends ∷ []
 smalls_of o (Row.Triple s p ob) =
     if is_graphs o then Small.IsInGraph ∷ Small.Places Position.Subject s ∷ Small.Places Position.Predicate p ∷ Small.Places Position.Object ob ∷ Small.Ends ∷ []
     else Small.Places Position.Subject s ∷ Small.Places Position.Predicate p ∷ Small.Places Position.Object ob ∷ Small.Ends ∷ []
@@ -47,7 +47,7 @@ smalls_of o (Row.Quad s p ob g) =
 
 -- the small steps of a row
 abbrev pub smalls : StreamOptions → Row → List Small
-smalls o r = if is_wrong_row o r then Small.Refuses WrongRow ∷ [] else smalls_of o r
+smalls o r = if is_wrong_row o r then Small.Refuses WrongRow ∷ [] else smalls_of o (read_under o r)
 
 abbrev pub with_term : Position → Value → Ids → State → State
 with_term Position.Subject v ids s = record s { ids = ids; subject = Some v }
@@ -87,6 +87,7 @@ term_demands place r (Term.Literal lex e) = tail_demands place e
 term_demands place r (Term.Nested s p o) =
     term_demands place r s ++ (term_demands place (refs_after s r) p ++ term_demands place (refs_after p (refs_after s r)) o)
 term_demands place r Term.Default = []
+term_demands place r (Term.Refused kind) = demand place kind Need.Never ∷ []
 
 abbrev pub with_entry : Table → Id → Summary → Summary
 with_entry Table.Name id m = record m { name_entry = id }
@@ -113,6 +114,7 @@ of_place place x (Term.Bnode label) = with_left x (left_by (Term.Bnode label)) (
 of_place place x (Term.Literal lex e) = with_left x (left_by (Term.Literal lex e)) (of_term place (Term.Literal lex e))
 of_place place x (Term.Nested s p o) = with_left x (left_by (Term.Nested s p o)) (of_term place (Term.Nested s p o))
 of_place place x Term.Default = with_left x (left_by Term.Default) (of_term place Term.Default)
+of_place place x (Term.Refused kind) = with_left x (left_by (Term.Refused kind)) (of_term place (Term.Refused kind))
 
 abbrev pub of_entry : Place → Table → Id → List ℕ → Summary
 of_entry place t id text = with_entry t id (record unit {

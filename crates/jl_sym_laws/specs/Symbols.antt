@@ -52,7 +52,8 @@ tail_written Ending.Simple = SymTail.Simple
 tail_written (Ending.Lang tag) = SymTail.Lang tag
 tail_written (Ending.Typed id) = SymTail.Typed id
 
--- A term as it is written, behind these last ids. One that isn't set has no meaning, and asking for it is refused.
+-- A term as it is written, behind these last ids. One that isn't set, or may not stand where it does, has no meaning, and
+-- asking for it is refused.
 abbrev pub term_written : Refs → Term → SymTerm
 term_written r Term.Unset = SymTerm.Default
 term_written r (Term.Iri i) = SymTerm.Iri (refs_following r (refs_written i))
@@ -60,3 +61,4 @@ term_written r (Term.Bnode label) = SymTerm.Bnode label
 term_written r (Term.Literal lex e) = SymTerm.Literal lex (tail_written e)
 term_written r (Term.Nested s p o) = SymTerm.Nested (term_written r s) (term_written (refs_after s r) p) (term_written (refs_after p (refs_after s r)) o)
 term_written r Term.Default = SymTerm.Default
+term_written r (Term.Refused k) = SymTerm.Default

@@ -13,7 +13,7 @@ use Rattle.jl_sym_laws.specs.Runs.{of_reading}
 
 -- options of a physical type, with tables of eight names, two prefixes and two datatypes
 abbrev pub options : ℕ → StreamOptions
-options physical = record { stream_name = []; physical = physical; generalized = false; star = false; names = 8; prefixes = 2; datatypes = 2; logical = 0; version = 1 }
+options physical = record { stream_name = []; physical = physical; generalized = false; star = false; names = 8; prefixes = 2; datatypes = 2; logical = 0; version = 1; strict = false }
 
 -- a frame's rows, of which so many stood before
 unfoldable pub rows_at : ℕ → ℕ → List Row → List Placed

@@ -1,19 +1,17 @@
 ghost use Rattle.std.specs.Prelude.{◌≤◌};
 ghost use Rattle.jl_base.specs.Spans.{IsInside};
-ghost use Rattle.jl_rows.specs.Heads.{HasHead};
 ghost use Rattle.jl_rows.specs.Seen.{HasRow};
 
 use crate::{
     Head, Options, Physical, RawTerm, Row, Table, head, head_at, next_row, next_row_at, triple_term,
 };
-use jl_base::{Kind, MemSource, Place, Space, Span};
+use jl_base::{Kind, Place, Space, Span};
 use std::process::Abort;
 use std::test::Fail;
 
 // The frame and the row of a file's head, and its fault.
-fn outcome(rt: &impl Abort, file: &[u8]) -> (u64, u32, Option<Kind>) {
-    assert!(rt; file.len() < 100);
-    match head_at(file) {
+fn outcome(file: &[u8], strict: bool) -> (u64, u32, Option<Kind>) {
+    match head_at(file).under(strict) {
         Head::Empty => (0, 0, None),
         Head::First(_, place) => (place.frame, place.row, None),
         Head::Bad(fault) => (fault.place.frame, fault.place.row, Some(fault.kind)),
@@ -22,7 +20,7 @@ fn outcome(rt: &impl Abort, file: &[u8]) -> (u64, u32, Option<Kind>) {
 
 #[test]
 fn heads(rt: HostRuntime) {
-    let files: [(&[u8], u64, u32, Option<Kind>); 18] = [
+    let files: [(&[u8], u64, u32, Option<Kind>); 19] = [
         (b"", 0, 0, None),
         (b"\0\0", 0, 0, None),
         (
@@ -50,6 +48,7 @@ fn heads(rt: HostRuntime) {
             0,
             Some(Kind::BadVarint),
         ),
+        (b"\x81\x80\x80\x40", 1, 0, Some(Kind::FrameTooLong)),
         (b"\x01\0", 1, 1, Some(Kind::BadTag)),
         (b"\x02\x08\x01", 1, 1, Some(Kind::WrongWire)),
         (b"\x02\x78\x01", 1, 1, Some(Kind::WrongWire)),
@@ -88,12 +87,34 @@ fn heads(rt: HostRuntime) {
         ),
     ];
     for (file, frame, row, kind) in files {
-        assert_eq!(rt; outcome(&rt, file), (frame, row, kind));
+        assert_eq!(rt; outcome(file, false), (frame, row, kind));
+    }
+}
+
+// A file of one options row under the strict profile: by its name table, its logical type and its physical type.
+#[test]
+fn heads_under_the_strict_profile(rt: HostRuntime) {
+    let cases: [(u8, u8, u8, Option<Kind>); 8] = [
+        (8, 0, 1, None),
+        (7, 0, 1, Some(Kind::SmallNames)),
+        (7, 2, 1, Some(Kind::SmallNames)),
+        (8, 2, 1, Some(Kind::BadLogical)),
+        (8, 13, 1, None),
+        (8, 114, 3, None),
+        (8, 1, 2, Some(Kind::BadLogical)),
+        (8, 5, 2, Some(Kind::BadLogical)),
+    ];
+    for (names, logical, physical, kind) in cases {
+        let file = [
+            14, 10, 12, 10, 10, 16, physical, 72, names, 88, 8, 112, logical, 120, 1,
+        ];
+        assert_eq!(rt; outcome(&file, true), (1, 1, kind));
+        assert_eq!(rt; outcome(&file, false), (1, 1, None));
     }
 }
 
 // The outcome of a file of one row, a triple whose subject is a triple term inside so many others.
-fn nested_outcome(rt: &impl Abort, levels: usize) -> (u64, u32, Option<Kind>)
+fn nested_outcome(levels: usize) -> (u64, u32, Option<Kind>)
     requires { levels ≤ 34 }
 {
     let mut file = [0x22; 73];
@@ -103,13 +124,13 @@ fn nested_outcome(rt: &impl Abort, levels: usize) -> (u64, u32, Option<Kind>)
     for i in 0..levels + 2 {
         file[2 * i + 2] = (2 * (levels + 1 - i)) as u8;
     }
-    outcome(rt, &file[..2 * levels + 5])
+    outcome(&file[..2 * levels + 5], false)
 }
 
 #[test]
 fn triple_terms_of_depth_32_and_33(rt: HostRuntime) {
-    assert_eq!(rt; nested_outcome(&rt, 32), (1, 1, Some(Kind::NoOptions)));
-    assert_eq!(rt; nested_outcome(&rt, 33), (1, 1, Some(Kind::TooDeep)));
+    assert_eq!(rt; nested_outcome(32), (1, 1, Some(Kind::NoOptions)));
+    assert_eq!(rt; nested_outcome(33), (1, 1, Some(Kind::TooDeep)));
 }
 
 #[test]
@@ -194,21 +215,12 @@ fn names(term: Option<RawTerm>) -> u32 {
     }
 }
 
-fn short_head(rt: &impl Abort, space: &Space) -> Head
-    ensures { HasHead space.now result }
-{
-    assert!(rt; space.bytes().len() < 100);
-    head(space)
-}
-
 #[test]
 fn rows_of_a_space(rt: HostRuntime) -> Result<(), Fail> {
     let alloc = rt.alloc();
-    let mut space = Space::new(alloc);
-    let mut source = MemSource::new(alloc, FILE, 16, &[])?;
-    assert_eq!(rt; space.fill(&mut source, 1000), Ok(()));
+    let space = Space::from_bytes(alloc, FILE)?;
     assert_eq!(rt; space.bytes().len(), 73);
-    let Head::First(first, place) = short_head(&rt, &space) else {
+    let Head::First(first, place) = head(&space) else {
         return Ok(assert!(rt; false));
     };
     assert_eq!(rt; place, Place { frame: 1, row: 1 });

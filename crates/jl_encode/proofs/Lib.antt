@@ -28,3 +28,4 @@ pub mod FirstDesk
 pub mod Beginning
 pub mod Adding
 pub mod Finishing
+pub mod ListLemmas

@@ -15,7 +15,7 @@ use Rattle.jl_encoding.specs.Handed.{left_of, handed}
 use Rattle.jl_encode.specs.declared.stop.Stop.{Stop}
 use Rattle.jl_encode.specs.declared.stop.Stop.TheVariants as stop
 use Rattle.jl_encode.specs.Desks.{Desk}
-use Rattle.jl_encode.specs.Putting.{Lasts, lasts_behind}
+use Rattle.jl_encode.specs.Putting.{Lasts, lasts_behind, put_item, is_refused}
 use Rattle.jl_encode.specs.Standing.{Agrees}
 
 -- The form and the number of items in a frame; the tables and last terms; the frame under way with its number of items; and
@@ -76,6 +76,17 @@ pub record Stands (e : Progress) (is : List Item) : Type 0 where
 -- An item can't be added to these: it is too wide, and the number tells which one it is.
 abbrev pub IsTooWide : Progress → List Item → Item → ℕ → Type 0
 IsTooWide e is i n = (wide e.form (is ++ i ∷ []) ≡ Some n) × (n ≡ length is + 1)
+
+-- Why an item was refused, proper or not: its number is the next one, and a table has no slot for a text of it, or its
+-- rows take too many bytes. Behind items that the encoder stands for it is too wide.
+pub record IsRefused (e : Progress) (i : Item) (n : ℕ) : Type 0 where
+  pub number : n ≡ next_number e
+  pub cause : is_refused (put_item i e.lasts e.desk) ≡ true
+  pub wide : (is : List Item) → Stands e is → IsTooWide e is i n
+
+abbrev pub IfTooWide : Progress → Item → Result (Unit {0}) Stop → Type 0
+IfTooWide e i (Err (stop.TooWide n)) = IsRefused e i n
+IfTooWide e i _ = Unit {0}
 
 -- The bytes by which what was handed grows with an item.
 pub record Grows (e : Progress) (is : List Item) (i : Item) (bytes : List ℕ) : Type 0 where

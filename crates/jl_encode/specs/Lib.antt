@@ -8,3 +8,4 @@ pub mod Held
 pub mod Lasts
 pub mod Answers
 pub mod Encoders
+pub mod Lists

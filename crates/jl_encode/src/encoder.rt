@@ -8,7 +8,7 @@ ghost use Rattle.jl_spell.specs.Frames.{frame_of};
 ghost use Rattle.jl_encoding.specs.Encoding.{options_of};
 ghost use Rattle.jl_encoding.specs.Items.{Fits};
 ghost use Rattle.jl_encoding.specs.Proper.{IsProperItem};
-ghost use Rattle.jl_encode.specs.Answers.{AddsItem, Finishes, HandsFrame, Stands, counted, ends_frame, is_done, next_number, with_item};
+ghost use Rattle.jl_encode.specs.Answers.{AddsItem, Finishes, HandsFrame, IfTooWide, Stands, counted, ends_frame, is_done, next_number, with_item};
 ghost use Rattle.jl_encode.specs.Encoders.{progress};
 ghost use Rattle.jl_encode.specs.Putting.{PutsItem, put_item};
 ghost use Rattle.jl_encode.specs.declared.stop.Stop.TheVariants.{Spent, WriteFault};
@@ -89,6 +89,7 @@ impl Encoder {
         ensures number { OnOk result (next_number (progress self.new) ≡ next_number (progress self.old) + 1) }
         ensures spent { (progress self.new).spent ≡ (progress self.old).spent }
         ensures form { (progress self.new).form ≡ (progress self.old).form }
+        ensures per { (progress self.new).per ≡ (progress self.old).per }
     {
         put_next(
             self.alloc,
@@ -107,6 +108,7 @@ impl Encoder {
         ensures number { next_number (progress self.new) ≡ next_number (progress self.old) }
         ensures spent { (progress self.new).spent ≡ (progress self.old).spent }
         ensures form { (progress self.new).form ≡ (progress self.old).form }
+        ensures per { (progress self.new).per ≡ (progress self.old).per }
     {
         let is_long = self.body.len() >= FRAME;
         if !self.count.ends(is_long) {
@@ -125,7 +127,7 @@ impl Encoder {
     ///
     /// The bytes are those of the file of items that are proper: texts in UTF-8, language tags in their shape, triple terms
     /// at most 32 deep, the default graph only as a graph, and no triple term there. Of other items nothing is promised but
-    /// that the call returns.
+    /// that the call returns, and why an item was refused.
     pub fn add<K: Sink>(&mut self, item: &Item, sink: &mut K) -> Result<(), Stop>
         requires fits { Fits (options_of (progress self.old).form) (item_of item.now) }
         requires few { next_number (progress self.old) ≤ 2 ^ 62 }
@@ -136,8 +138,11 @@ impl Encoder {
         ensures quiet { OnErr result ((result ≡ Err WriteFault) ⊎ (K.held sink.new ≡ K.held sink.old)) }
         ensures ends { OnErr result ((progress self.new).spent ≡ true) }
         ensures goes_on { OnOk result ((progress self.new).spent ≡ false) }
+        ensures steady { (result ≡ Err WriteFault) ⊎ (K.faults sink.new ≡ K.faults sink.old) }
+        ensures wide { IfTooWide (progress self.old) (item_of item.now) result }
         ensures number { OnOk result (next_number (progress self.new) ≡ next_number (progress self.old) + 1) }
         ensures form { (progress self.new).form ≡ (progress self.old).form }
+        ensures per { (progress self.new).per ≡ (progress self.old).per }
     {
         if self.spent {
             return Err(Stop::Spent);
@@ -171,7 +176,11 @@ impl Encoder {
         ensures later { K.faults sink.old ≤ K.faults sink.new }
         ensures cause { result ≡ Err WriteFault → Rose (K.faults sink.old) (K.faults sink.new) }
         ensures quiet { OnErr result ((result ≡ Err WriteFault) ⊎ (K.held sink.new ≡ K.held sink.old)) }
+        ensures steady { (result ≡ Err WriteFault) ⊎ (K.faults sink.new ≡ K.faults sink.old) }
+        ensures refuses { OnErr result ((result ≡ Err WriteFault) ⊎ (result ≡ Err Spent)) }
         ensures ends { (progress self.new).spent ≡ true }
+        ensures form { (progress self.new).form ≡ (progress self.old).form }
+        ensures per { (progress self.new).per ≡ (progress self.old).per }
     {
         if self.spent {
             return Err(Stop::Spent);

@@ -10,6 +10,7 @@ mod encoder;
 mod items;
 mod lasts;
 mod laws;
+mod list;
 mod refusal;
 mod spelling;
 #[cfg(test)]
@@ -25,4 +26,5 @@ mod texts;
 pub use encoder::Encoder;
 pub use jl_encoding::Form;
 pub use laws::steps_are_rows;
+pub use list::encode;
 pub use stop::Stop;

@@ -12,6 +12,12 @@ returns-in-Err-TooWide-clause-adds g c is stands proper =
     let wide = rw c.in-Err-TooWide.field-0-is at c.in-Err-TooWide.ensures.puts in
     rw number (refused (progress c.args.self.now) is (item_of c.args.item.now) stands wide, refl)
 
+pub returns-in-Err-TooWide-clause-wide : goal.returns-in-Err-TooWide-clause-wide
+returns-in-Err-TooWide-clause-wide g c =
+    let number = c.item-number.ensures in
+    let wide = rw c.in-Err-TooWide.field-0-is at c.in-Err-TooWide.ensures.puts in
+    record { number = number; cause = wide; wide = λ is stands. rw number (refused (progress c.args.self.now) is (item_of c.args.item.now) stands wide) }
+
 pub returns-in_default-clause-adds : goal.returns-in_default-clause-adds
 returns-in_default-clause-adds g c is stands proper =
     let e = progress c.args.self.now in

@@ -9,12 +9,14 @@ mod made;
 mod words;
 
 ghost use Rattle.std.specs.Prelude.{◌≡◌, ◌<◌, ◌≤◌, ◌+◌, IfOk, OnOk};
+ghost use Rattle.std.specs.IoError.{error_kind};
 ghost use Rattle.jl_encoding.specs.declared.form.Form.TheVariants.{Triples};
 ghost use Rattle.jl_encode.specs.Answers.{next_number};
 ghost use Rattle.jl_encode.specs.Encoders.{progress};
 ghost use Rattle.jl_base.specs.Items.{item_of};
+ghost use Rattle.encode_made.specs.Endings.{IsEndedFor};
 ghost use Rattle.encode_made.specs.Made.{IsOfGroup};
-ghost use Rattle.encode_made.specs.declared.Ending.TheVariants.{NoMemory, Usage};
+ghost use Rattle.encode_made.specs.declared.Ending.TheVariants.{NoMemory};
 
 use jl_base::{Sink, write_all};
 use jl_encode::{Encoder, Stop};
@@ -55,10 +57,13 @@ impl<T: Drop> From<AllocFailed<T>> for Ending {
 }
 
 impl From<io::Error> for Ending {
-    ghost from_gives = { λ _ ending. ending ≡ Usage };
+    ghost from_gives = { λ error ending. IsEndedFor (error_kind error) ending };
 
-    fn from(_error: io::Error) -> Ending {
-        Ending::Usage
+    fn from(error: io::Error) -> Ending {
+        match error.kind() {
+            io::ErrorKind::OutOfMemory => Ending::NoMemory,
+            _ => Ending::Usage,
+        }
     }
 }
 

@@ -18,26 +18,72 @@ fn iri_of<'a>(bytes: &'a [u8], term: &Option<Known>) -> (&'a [u8], &'a [u8])
     }
 }
 
-// What the rows of a file of this physical type and tables of eight make: how many statements and namespaces, the
-// first fault, and the last object's prefix and name.
+// What a file declares, and whether it is held to it.
+#[derive(Clone, Copy)]
+struct Form {
+    physical: u32,
+    version: u32,
+    strict: bool,
+    generalized: bool,
+    star: bool,
+}
+
+// A file of this physical type that isn't held to anything.
+fn loose(physical: u32) -> Form {
+    Form {
+        physical,
+        version: 1,
+        strict: false,
+        generalized: false,
+        star: false,
+    }
+}
+
+// A file of this physical type that is held to declaring nothing.
+fn held(physical: u32) -> Form {
+    Form {
+        strict: true,
+        ..loose(physical)
+    }
+}
+
+// One that declares triple terms, in the second version.
+fn star(physical: u32) -> Form {
+    Form {
+        star: true,
+        version: 2,
+        ..held(physical)
+    }
+}
+
+// One that declares generalized statements.
+fn generalized(physical: u32) -> Form {
+    Form {
+        generalized: true,
+        ..held(physical)
+    }
+}
+
+// What the rows of a file with tables of eight make: how many statements and namespaces, the first fault, and the last
+// object's prefix and name.
 fn outcome<'a>(
     rt: &impl Abort,
     alloc: Global,
-    physical: u32,
+    form: Form,
     rows: &'a [u8],
 ) -> Result<(u32, Option<Kind>, &'a [u8], &'a [u8]), AllocError> {
     assert!(rt; rows.len() < 1000);
     let options = Options {
         stream_name: Span { at: 0, len: 0 },
-        physical,
-        generalized: false,
-        star: false,
+        physical: form.physical,
+        generalized: form.generalized,
+        star: form.star,
         names: 8,
         prefixes: 8,
         datatypes: 8,
         logical: 0,
-        version: 1,
-        strict: false,
+        version: form.version,
+        strict: form.strict,
     };
     let mut state = State::opening(alloc, rows, &options)?;
     let mut stated = 0;
@@ -80,7 +126,7 @@ fn last_terms_keep_their_texts(rt: HostRuntime) -> Result<(), Fail> {
     ];
     for (end, wanted, prefix, name) in cases {
         assert!(rt; end <= ROWS.len());
-        let found = outcome(&rt, alloc, 1, &ROWS[..end])?;
+        let found = outcome(&rt, alloc, loose(1), &ROWS[..end])?;
         assert_eq!(rt; found, (wanted, None, prefix, name));
     }
     Ok(())
@@ -137,7 +183,68 @@ fn first_faults(rt: HostRuntime) -> Result<(), Fail> {
         ),
     ];
     for (physical, rows, wanted, kind) in cases {
-        let found = outcome(&rt, alloc, physical, rows)?;
+        let found = outcome(&rt, alloc, loose(physical), rows)?;
+        assert_eq!(rt; (found.0, found.1), (wanted, kind));
+    }
+    Ok(())
+}
+
+// A name a, and then one row. All IRIs in it are this name's, but for the subject of NO_ENTRY.
+const LITERAL_SUBJECT: &[u8] =
+    b"\x0A\x05\x4A\x03\x12\x01a\x0A\x0F\x12\x0D\x1A\x03\x0A\x01x\x2A\x02\x10\x01\x4A\x02\x10\x01";
+
+const LABEL_PREDICATE: &[u8] =
+    b"\x0A\x05\x4A\x03\x12\x01a\x0A\x0D\x12\x0B\x0A\x02\x10\x01\x32\x01x\x4A\x02\x10\x01";
+
+const NESTED_OBJECT: &[u8] =
+    b"\x0A\x05\x4A\x03\x12\x01a\x0A\x18\x12\x16\x0A\x02\x10\x01\x2A\x02\x10\x01\x62\x0C\x0A\x02\x10\x01\x2A\x02\x10\x01\x4A\x02\x10\x01";
+
+const NESTED_PREDICATE: &[u8] =
+    b"\x0A\x05\x4A\x03\x12\x01a\x0A\x18\x12\x16\x0A\x02\x10\x01\x42\x0C\x0A\x02\x10\x01\x2A\x02\x10\x01\x4A\x02\x10\x01\x4A\x02\x10\x01";
+
+const LITERAL_INSIDE: &[u8] =
+    b"\x0A\x05\x4A\x03\x12\x01a\x0A\x19\x12\x17\x0A\x02\x10\x01\x2A\x02\x10\x01\x62\x0D\x1A\x03\x0A\x01x\x2A\x02\x10\x01\x4A\x02\x10\x01";
+
+const BAD_TAG: &[u8] =
+    b"\x0A\x05\x4A\x03\x12\x01a\x0A\x12\x12\x10\x0A\x02\x10\x01\x3A\x06\x0A\x01x\x12\x011\x4A\x02\x10\x01";
+
+const NO_ENTRY: &[u8] =
+    b"\x0A\x05\x4A\x03\x12\x01a\x0A\x0F\x12\x0D\x0A\x02\x10\x03\x3A\x03\x0A\x01x\x4A\x02\x10\x01";
+
+const NAMESPACE: &[u8] = b"\x0A\x05\x4A\x03\x12\x01a\x0A\x09\x32\x07\x0A\x01p\x12\x02\x10\x01";
+
+const LITERAL_GRAPH: &[u8] =
+    b"\x0A\x05\x4A\x03\x12\x01a\x0A\x14\x1A\x12\x0A\x02\x10\x01\x2A\x02\x10\x01\x4A\x02\x10\x01\x82\x01\x03\x0A\x01x";
+
+const LITERAL_GRAPH_START: &[u8] = b"\x0A\x05\x4A\x03\x12\x01a\x0A\x07\x22\x05\x22\x03\x0A\x01x";
+
+const SAME_OPTIONS: &[u8] =
+    b"\x0A\x05\x4A\x03\x12\x01a\x0A\x0C\x0A\x0A\x10\x01\x48\x08\x50\x08\x58\x08\x78\x01";
+
+#[test]
+fn rows_held_to_what_is_declared(rt: HostRuntime) -> Result<(), Fail> {
+    let alloc = rt.alloc();
+    let cases: [(Form, &[u8], u32, Option<Kind>); 17] = [
+        (held(1), LITERAL_SUBJECT, 0, Some(Kind::NotPlain)),
+        (generalized(1), LITERAL_SUBJECT, 1, None),
+        (loose(1), LITERAL_SUBJECT, 1, None),
+        (held(1), LABEL_PREDICATE, 0, Some(Kind::NotPlain)),
+        (held(1), NESTED_OBJECT, 0, Some(Kind::NoStar)),
+        (loose(1), NESTED_OBJECT, 1, None),
+        (held(1), NESTED_PREDICATE, 0, Some(Kind::NoStar)),
+        (star(1), NESTED_PREDICATE, 0, Some(Kind::NotPlain)),
+        (star(1), LITERAL_INSIDE, 0, Some(Kind::NotPlain)),
+        (held(1), BAD_TAG, 0, Some(Kind::NotPlain)),
+        (held(1), NO_ENTRY, 0, Some(Kind::NoEntry)),
+        (held(1), NAMESPACE, 0, Some(Kind::EarlyNamespace)),
+        (star(1), NAMESPACE, 1, None),
+        (loose(1), NAMESPACE, 1, None),
+        (held(2), LITERAL_GRAPH, 0, Some(Kind::NotPlain)),
+        (held(3), LITERAL_GRAPH_START, 0, Some(Kind::NotPlain)),
+        (held(1), SAME_OPTIONS, 0, None),
+    ];
+    for (form, rows, wanted, kind) in cases {
+        let found = outcome(&rt, alloc, form, rows)?;
         assert_eq!(rt; (found.0, found.1), (wanted, kind));
     }
     Ok(())

@@ -169,6 +169,8 @@ def run(program, encoder, tally):
             done = subprocess.run([encoder, str(count), str(per)], stdin=subprocess.DEVNULL, capture_output=True, timeout=60)
             ended = "" if (done.returncode, done.stderr) == (0, b"") else "status %d, %r " % (done.returncode, done.stderr)
             tally.check(ended + rows_differ(cut(done.stdout), frames_of(items[:count], per)), "rows of " + name, done.stdout)
-            status, out, errors = program.run("nquads", done.stdout)
-            ended = "" if (status, errors) == (0, b"") else "status %d, %r " % (status, errors)
-            tally.check(ended + difference(out, text), "nquads of " + name, done.stdout)
+            for options in ([], ["--strict=1"]):
+                status, out, errors = program.run("nquads", done.stdout, options)
+                ended = "" if (status, errors) == (0, b"") else "status %d, %r " % (status, errors)
+                what = " ".join(["nquads", *options, "of", name])
+                tally.check(ended + difference(out, text), what, done.stdout)

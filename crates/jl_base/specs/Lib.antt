@@ -2,6 +2,7 @@ pub mod Causes
 pub mod Filling
 pub mod Items
 pub mod Kinds
+pub mod Limits
 pub mod Parts
 pub mod Results
 pub mod Sinks

@@ -7,9 +7,9 @@ ghost use Rattle.jl_rows.specs.Files.{Placed, fault_at, frames, place_at, rows_t
 ghost use Rattle.jl_rows.specs.Heads.{ArePassed, BeginsWith, HasHead, head_seen};
 ghost use Rattle.jl_rows.specs.Seen.{HasRow, options_seen, row_seen};
 
-use crate::Options;
 use crate::frame::next_frame;
 use crate::frame_rows::next_row_at;
+use crate::options::{GRAPHS, Options, QUADS, TRIPLES};
 use crate::row::Row;
 use jl_base::{Fault, Kind, Place};
 
@@ -132,7 +132,7 @@ fn first_row_checked(bytes: &[u8], row: Row) -> Result<Options, Kind>
         return Err(Kind::NoOptions);
     };
     if options.physical == 0
-        || options.physical > 3
+        || options.physical > GRAPHS
         || options.version == 0
         || options.version > 2
     {
@@ -153,8 +153,8 @@ fn goes_with(options: &Options) -> bool
 {
     match options.logical {
         0 => true,
-        1 | 3 | 13 => options.physical == 1,
-        2 | 4 | 14 | 114 => options.physical == 2 || options.physical == 3,
+        1 | 3 | 13 => options.physical == TRIPLES,
+        2 | 4 | 14 | 114 => options.physical == QUADS || options.physical == GRAPHS,
         _ => false,
     }
 }

@@ -30,6 +30,6 @@ pub use frame::next_frame;
 pub use frame_rows::{next_row_at, next_row_into};
 pub use in_space::{head, next_row, triple_term};
 pub use message::{Known, Message, Shape};
-pub use options::{Options, Physical};
+pub use options::{GRAPHS, Options, Physical, QUADS, TRIPLES};
 pub use row::{RawIri, RawQuad, RawTail, RawTerm, RawTriple, Row, Table};
 pub use triple_terms::{triple_term_at, triple_terms_again};

@@ -12,7 +12,7 @@ use jl_base::Span;
 #[derive(Clone, Copy, Debug)]
 pub struct Options {
     pub stream_name: Span,
-    /// The physical type: 1 for TRIPLES, 2 for QUADS, 3 for GRAPHS.
+    /// The physical type: `TRIPLES`, `QUADS` or `GRAPHS`, once the first row was checked.
     pub physical: u32,
     pub generalized: bool,
     pub star: bool,
@@ -25,6 +25,13 @@ pub struct Options {
     /// What the file declares is checked. No message says this.
     pub strict: bool,
 }
+
+/// The physical types as numbers, as options have them.
+pub const TRIPLES: u32 = 1;
+
+pub const QUADS: u32 = 2;
+
+pub const GRAPHS: u32 = 3;
 
 /// What a file's rows make: triples, quads, or triples in graphs.
 #[derive(Clone, Copy, Debug, PartialEq, Eq)]
@@ -41,8 +48,8 @@ impl Options {
         ensures { number_of result ≡ self.now.physical }
     {
         match self.physical {
-            1 => Physical::Triples,
-            2 => Physical::Quads,
+            TRIPLES => Physical::Triples,
+            QUADS => Physical::Quads,
             _ => Physical::Graphs,
         }
     }

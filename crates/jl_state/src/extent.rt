@@ -1,5 +1,6 @@
 //! Where a text lies, in eight bytes, with what is known of how it is written.
-ghost use Rattle.std.specs.Prelude.{◌≡◌, ◌≢◌, ◌↔◌, ◌≤◌, ◌^◌, ℕ, List, IsTrue, length};
+ghost use Rattle.std.specs.Prelude.{◌≡◌, ◌≢◌, ◌↔◌, ◌≤◌, ℕ, List, IsTrue, length};
+ghost use Rattle.jl_base.specs.Limits.{most_bytes};
 ghost use Rattle.jl_base.specs.Spans.{text_of, IsInside};
 ghost use Rattle.jl_state.specs.Extents.{text_in, slot_seen, mark_of, IsFilled, IsMark, IsSound, IsHeld, IsEmpty};
 
@@ -38,7 +39,7 @@ impl Extent {
     /// A text of which nothing is known but where it lies.
     pub fn of(bytes: &[u8], span: Span) -> Extent
         requires inside { IsInside bytes.now span }
-        requires short { length bytes.now ≤ 2 ^ 30 }
+        requires short { length bytes.now ≤ most_bytes }
         ensures text { text_in bytes.now result ≡ text_of bytes.now span }
         ensures held { IsHeld bytes.now result }
     {
@@ -54,7 +55,7 @@ impl Extent {
     /// A text, with what is found of how it is written.
     pub fn marked(bytes: &[u8], span: Span) -> Extent
         requires inside { IsInside bytes.now span }
-        requires short { length bytes.now ≤ 2 ^ 30 }
+        requires short { length bytes.now ≤ most_bytes }
         ensures text { text_in bytes.now result ≡ text_of bytes.now span }
         ensures sound { IsSound bytes.now result }
         ensures filled { IsFilled result }

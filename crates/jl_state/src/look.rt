@@ -1,5 +1,6 @@
 //! Terms of a row, resolved: what they mean by where their texts lie.
-ghost use Rattle.std.specs.Prelude.{◌≡◌, ◌<◌, ◌≤◌, ◌^◌, IfErr, IfOk, OnOk, false, length};
+ghost use Rattle.std.specs.Prelude.{◌≡◌, ◌<◌, ◌≤◌, IfErr, IfOk, OnOk, false, length};
+ghost use Rattle.jl_base.specs.Limits.{most_bytes};
 ghost use Rattle.jl_rows.specs.Decoder as decoder;
 ghost use Rattle.jl_rows.specs.Seen as rows;
 ghost use Rattle.jl_state.specs.Steps as steps;
@@ -24,7 +25,7 @@ impl Lookup<'_> {
     pub fn leaf(&self, last: &mut LastIds, raw: &RawTerm) -> Result<Known, Stop>
         requires tables { AreTables self.now.bytes.now self.now.tables.now }
         requires inside { rows.HasTerm self.now.bytes.now raw.now }
-        requires short { length self.now.bytes.now ≤ 2 ^ 30 }
+        requires short { length self.now.bytes.now ≤ most_bytes }
         requires small { last.old.name ≤ decoder.most_entries }
         requires leaf { IsLeaf raw.now }
         ensures exact { Looks self.now.bytes.now
@@ -64,7 +65,7 @@ impl Lookup<'_> {
         requires tables { AreTables self.now.bytes.now self.now.tables.now }
         requires inside { rows.HasPosition self.now.bytes.now raw.now }
         requires before { HasMaybe self.now.bytes.now before.old }
-        requires short { length self.now.bytes.now ≤ 2 ^ 30 }
+        requires short { length self.now.bytes.now ≤ most_bytes }
         requires small { last.old.name ≤ decoder.most_entries }
         ensures exact { Places self.now.bytes.now
             (steps.placed (slots_seen self.now.bytes.now self.now.tables.now) (ids_seen last.old) (maybe_value self.now.bytes.now before.old)
@@ -100,7 +101,7 @@ impl Lookup<'_> {
     ) -> Result<Known, Stop>
         requires tables { AreTables self.now.bytes.now self.now.tables.now }
         requires inside { rows.HasTerm self.now.bytes.now raw }
-        requires short { length self.now.bytes.now ≤ 2 ^ 30 }
+        requires short { length self.now.bytes.now ≤ most_bytes }
         requires small { last.old.name ≤ decoder.most_entries }
         ensures exact { Looks self.now.bytes.now
             (steps.looked (slots_seen self.now.bytes.now self.now.tables.now) (ids_seen last.old)
@@ -126,7 +127,7 @@ impl Lookup<'_> {
     ) -> Result<Known, Stop>
         requires tables { AreTables self.now.bytes.now self.now.tables.now }
         requires inside { rows.HasTriple self.now.bytes.now terms.now }
-        requires short { length self.now.bytes.now ≤ 2 ^ 30 }
+        requires short { length self.now.bytes.now ≤ most_bytes }
         requires small { last.old.name ≤ decoder.most_entries }
         ensures exact { Looks self.now.bytes.now
             (steps.looked (slots_seen self.now.bytes.now self.now.tables.now) (ids_seen last.old)
@@ -151,7 +152,7 @@ impl Lookup<'_> {
     ) -> Result<Known, Stop>
         requires tables { AreTables self.now.bytes.now self.now.tables.now }
         requires inside { rows.HasPosition self.now.bytes.now raw }
-        requires short { length self.now.bytes.now ≤ 2 ^ 30 }
+        requires short { length self.now.bytes.now ≤ most_bytes }
         requires small { last.old.name ≤ decoder.most_entries }
         ensures exact { Looks self.now.bytes.now
             (steps.looked (slots_seen self.now.bytes.now self.now.tables.now) (ids_seen last.old)

@@ -1,5 +1,6 @@
 //! The state of a decoder: the tables, the last ids, the last terms and the open graph.
-ghost use Rattle.std.specs.Prelude.{◌≡◌, ◌+◌, ◌<◌, ◌≤◌, ◌^◌, IfOk, OnOk, length, map};
+ghost use Rattle.std.specs.Prelude.{◌≡◌, ◌+◌, ◌<◌, ◌≤◌, IfOk, OnOk, length, map};
+ghost use Rattle.jl_base.specs.Limits.{most_bytes};
 ghost use Rattle.jl_base.specs.Spans.{IsInside, text_of};
 ghost use Rattle.jl_rows.specs.Decoder as decoder;
 ghost use Rattle.jl_rows.specs.Seen as rows;
@@ -55,7 +56,7 @@ pub(crate) fn enter(
     text: Span,
 ) -> Result<(), Kind>
     requires inside { IsInside bytes.now text }
-    requires short { length bytes.now ≤ 2 ^ 30 }
+    requires short { length bytes.now ≤ most_bytes }
     requires small { last.old ≤ decoder.most_entries }
     requires few { length slots.old.items ≤ decoder.most_entries + 1 }
     requires sound { AreSound bytes.now slots.old.items }

@@ -1,6 +1,7 @@
 //! One row's step from a state.
-ghost use Rattle.std.specs.Prelude.{◌≡◌, ◌≤◌, ◌^◌, IfErr, IfOk, OnOk, length, true, false, ◌==◌, ◌&&◌, is_none};
+ghost use Rattle.std.specs.Prelude.{◌≡◌, ◌≤◌, IfErr, IfOk, OnOk, length, true, false, ◌==◌, ◌&&◌, is_none};
 ghost use Rattle.std.specs.Option.{option_map};
+ghost use Rattle.jl_base.specs.Limits.{most_bytes};
 ghost use Rattle.jl_base.specs.Spans.{IsInside, text_of};
 ghost use Rattle.jl_rows.specs.Decoder as decoder;
 ghost use Rattle.jl_rows.specs.Seen as rows;
@@ -16,7 +17,7 @@ use crate::state::enter;
 use crate::tables::Lookup;
 use crate::{Extent, State, Stop};
 use jl_base::{Kind, Span};
-use jl_rows::{RawIri, RawQuad, RawTerm, RawTriple, Row, Table};
+use jl_rows::{GRAPHS, QUADS, RawIri, RawQuad, RawTerm, RawTriple, Row, Table};
 use std::alloc::Global;
 
 /// What a row states. A statement's terms are the state's last ones, with its open graph where the file has graphs.
@@ -36,7 +37,7 @@ impl State {
     fn enter(&mut self, bytes: &[u8], table: Table, id: u32, text: Span) -> Result<Stated, Stop>
         requires lawful { IsLawful bytes.now self.old }
         requires inside { IsInside bytes.now text }
-        requires short { length bytes.now ≤ 2 ^ 30 }
+        requires short { length bytes.now ≤ most_bytes }
         ensures exact { Steps bytes.now (rows.options_seen bytes.now self.old.options)
             (steps.row_step (rows.options_seen bytes.now self.old.options) (written.Entry table id (text_of bytes.now text)) (state_seen bytes.now self.old)) self.new result }
         ensures lawful { OnOk result (IsLawful bytes.now self.new) }
@@ -74,7 +75,7 @@ impl State {
     fn lacks_graph(&self) -> bool
         ensures { result ≡ ((self.now.options.physical == 3) && is_none self.now.open_graph) }
     {
-        self.options.physical == 3 && self.open_graph.is_none()
+        self.options.physical == GRAPHS && self.open_graph.is_none()
     }
 
     fn triple<const STRICT: bool>(
@@ -86,7 +87,7 @@ impl State {
         requires lawful { IsLawful bytes.now self.old }
         requires inside { rows.HasTriple bytes.now t.now }
         requires form { decoder.is_quads (rows.options_seen bytes.now self.old.options) ≡ false }
-        requires short { length bytes.now ≤ 2 ^ 30 }
+        requires short { length bytes.now ≤ most_bytes }
         ensures exact { Steps bytes.now (rows.options_seen bytes.now self.old.options)
             (steps.triple_step (rows.options_seen bytes.now self.old.options)
             (under STRICT (rows.options_seen bytes.now self.old.options) values.Subject (rows.position_seen bytes.now t.now.s))
@@ -138,7 +139,7 @@ impl State {
         requires lawful { IsLawful bytes.now self.old }
         requires inside { rows.HasRow bytes.now (Row.Quad t.now) }
         requires form { decoder.is_quads (rows.options_seen bytes.now self.old.options) ≡ true }
-        requires short { length bytes.now ≤ 2 ^ 30 }
+        requires short { length bytes.now ≤ most_bytes }
         ensures exact { Steps bytes.now (rows.options_seen bytes.now self.old.options)
             (steps.quad_step
             (under STRICT (rows.options_seen bytes.now self.old.options) values.Subject (rows.position_seen bytes.now t.now.s))
@@ -194,7 +195,7 @@ impl State {
     ) -> Result<Stated, Stop>
         requires lawful { IsLawful bytes.now self.old }
         requires inside { rows.HasPosition bytes.now g }
-        requires short { length bytes.now ≤ 2 ^ 30 }
+        requires short { length bytes.now ≤ most_bytes }
         ensures exact { Steps bytes.now (rows.options_seen bytes.now self.old.options)
             (steps.graph_start_step (under STRICT (rows.options_seen bytes.now self.old.options) values.Graph (rows.position_seen bytes.now g)) (state_seen bytes.now self.old)) self.new result }
         ensures lawful { OnOk result (IsLawful bytes.now self.new) }
@@ -220,7 +221,7 @@ impl State {
 
     fn graph_end(&mut self, bytes: &[u8]) -> Result<Stated, Stop>
         requires lawful { IsLawful bytes.now self.old }
-        requires short { length bytes.now ≤ 2 ^ 30 }
+        requires short { length bytes.now ≤ most_bytes }
         ensures exact { Steps bytes.now (rows.options_seen bytes.now self.old.options)
             (steps.row_step (rows.options_seen bytes.now self.old.options) written.GraphEnd (state_seen bytes.now self.old)) self.new result }
         ensures lawful { OnOk result (IsLawful bytes.now self.new) }
@@ -238,7 +239,7 @@ impl State {
     fn namespace(&mut self, bytes: &[u8], name: Span, iri: Option<RawIri>) -> Result<Stated, Stop>
         requires lawful { IsLawful bytes.now self.old }
         requires inside { IsInside bytes.now name }
-        requires short { length bytes.now ≤ 2 ^ 30 }
+        requires short { length bytes.now ≤ most_bytes }
         ensures exact { Steps bytes.now (rows.options_seen bytes.now self.old.options)
             (steps.row_step (rows.options_seen bytes.now self.old.options) (written.Namespace (text_of bytes.now name) (option_map rows.ids_seen iri)) (state_seen bytes.now self.old)) self.new result }
         ensures lawful { OnOk result (IsLawful bytes.now self.new) }
@@ -268,10 +269,10 @@ impl State {
         ensures { result ≡ decoder.is_wrong_row (rows.options_seen bytes.now self.now.options) (rows.row_seen bytes.now row.now) }
     {
         match row {
-            Row::Triple(_) => self.options.physical == 2,
-            Row::Quad(_) => self.options.physical != 2,
-            Row::GraphStart(_) => self.options.physical != 3,
-            Row::GraphEnd => self.options.physical != 3,
+            Row::Triple(_) => self.options.physical == QUADS,
+            Row::Quad(_) => self.options.physical != QUADS,
+            Row::GraphStart(_) => self.options.physical != GRAPHS,
+            Row::GraphEnd => self.options.physical != GRAPHS,
             Row::Options(_) => false,
             Row::Namespace { .. } => false,
             Row::Entry { .. } => false,
@@ -282,7 +283,7 @@ impl State {
     pub fn step(&mut self, alloc: Global, bytes: &[u8], row: &Row) -> Result<Stated, Stop>
         requires lawful { IsLawful bytes.now self.old }
         requires inside { rows.HasRow bytes.now row.now }
-        requires short { length bytes.now ≤ 2 ^ 30 }
+        requires short { length bytes.now ≤ most_bytes }
         ensures exact { Steps bytes.now (rows.options_seen bytes.now self.old.options)
             (steps.step (rows.options_seen bytes.now self.old.options) (rows.row_seen bytes.now row.now) (state_seen bytes.now self.old)) self.new result }
         ensures lawful { OnOk result (IsLawful bytes.now self.new) }

@@ -1,5 +1,6 @@
 //! The slots of the lookup tables.
 ghost use Rattle.std.specs.Prelude.{◌≡◌, ◌<◌, ◌≤◌, ◌^◌, ◌++◌, None, IfOk, OnOk, length, map, slice_index_or};
+ghost use Rattle.jl_base.specs.Limits.{most_bytes};
 ghost use Rattle.jl_base.specs.Results.{Gives, some_or};
 ghost use Rattle.jl_rows.specs.Decoder as rows_decoder;
 ghost use Rattle.jl_rows.specs.Seen as rows;
@@ -92,7 +93,7 @@ impl Lookup<'_> {
     pub fn tail(&self, tail: RawTail) -> Result<KnownTail, Kind>
         requires tables { AreTables self.now.bytes.now self.now.tables.now }
         requires inside { rows.HasTail self.now.bytes.now tail }
-        requires short { length self.now.bytes.now ≤ 2 ^ 30 }
+        requires short { length self.now.bytes.now ≤ most_bytes }
         ensures exact { Gives (tail_value self.now.bytes.now) result
             (values.tail_of (slots_seen self.now.bytes.now self.now.tables.now) (rows.ending_seen self.now.bytes.now tail)) }
         ensures sound { IfOk result (HasTail self.now.bytes.now) }

@@ -7,6 +7,9 @@ ghost use Rattle.jl_wire.specs.Seen.{content_seen, IsNextField, IsWithin, Lies};
 use crate::varint;
 use jl_base::{Kind, Span};
 
+/// The greatest number of a field.
+const MOST_NUMBER: u64 = (1 << 29) - 1;
+
 /// What a field holds.
 #[derive(Clone, Copy, Debug, PartialEq, Eq)]
 pub enum Value {
@@ -55,7 +58,7 @@ fn is_bad_tag(tag: u64) -> bool
 {
     let number = tag / 8;
     let wire = tag % 8;
-    number == 0 || number > 536_870_911 || wire == 3 || wire == 4 || wire > 5
+    number == 0 || number > MOST_NUMBER || wire == 3 || wire == 4 || wire > 5
 }
 
 // The content of a wire type at a place, and the place after it.

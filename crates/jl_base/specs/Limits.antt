@@ -1,0 +1,5 @@
+-- How long an input may be.
+use Rattle.std.specs.Prelude.{ℕ, ◌^◌}
+
+abbrev pub most_bytes : ℕ
+most_bytes = 2 ^ 30

@@ -15,9 +15,9 @@ given_nothing (Some held) = refl
 
 -- for want of memory
 pub no_report : {T : Type 0} (goal : Goal) (h : Option Held) (f : ℕ) → Meets {T = T} goal h h f f (Err notice.NoMemory)
-no_report goal h f = record { given = []; gives = given_nothing h; front = tt; later = omega arith; cause = tt }
+no_report goal h f = record { given = []; gives = given_nothing h; front = tt; later = omega arith; cause = refl }
 
 -- for a fault
 pub faulty : {T : Type 0} (goal : Goal) (fault : Fault) (h : Option Held) (f : ℕ) → goal ≡ unreported fault → Meets {T = T} goal h h f f (Err (notice.Malformed 1 fault))
 faulty {T} goal fault h f is = subst (λ (g : Goal). Meets {T = T} g h h f f (Err (notice.Malformed 1 fault))) (sym is)
-    (record { given = [] ∷ []; gives = WasGiven-first h h [] (Adds-nil h); front = ([], refl); later = omega arith; cause = (refl, refl) })
+    (record { given = [] ∷ []; gives = WasGiven-first h h [] (Adds-nil h); front = ([], refl); later = omega arith; cause = (refl, refl, refl) })

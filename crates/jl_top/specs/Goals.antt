@@ -1,5 +1,5 @@
 -- What a job is to write, and how it is to end, by the bytes of its files.
-use Rattle.std.specs.Prelude.{ℕ, List, [], ◌∷◌, length, Option, Some, None, Result, Ok, Err}
+use Rattle.std.specs.Prelude.{ℕ, Bool, List, [], ◌∷◌, length, Option, Some, None, Result, Ok, Err}
 use Rattle.jl_base.specs.Results.{Reading}
 use Rattle.jl_base.specs.Terms.{Item}
 use Rattle.jl_base.specs.declared.place.Fault.{Fault}
@@ -9,9 +9,9 @@ use Rattle.jl_text.specs.Line.{text}
 use Rattle.jl_lines.specs.Counts.{statements, namespaces}
 use Rattle.jl_survey.specs.Reports.{inspect_report, valid_report}
 use Rattle.jl_survey.specs.Surveys.{Surveyed, survey}
-use Rattle.jl_top.specs.declared.command.Command.{Command}
-use Rattle.jl_top.specs.declared.command.Command.TheVariants.{Nquads, Validate, Inspect}
-use Rattle.jl_top.specs.declared.command.Job.{Job}
+use Rattle.jl_words.specs.declared.command.Command.{Command}
+use Rattle.jl_words.specs.declared.command.Command.TheVariants.{Nquads, Validate, Inspect}
+use Rattle.jl_words.specs.declared.command.Job.{Job}
 
 -- Malformed has the number of a file, counted from 1, and the file's first fault.
 pub data Ending : Type 0 where
@@ -58,10 +58,11 @@ abbrev pub first : List (List ℕ) → List ℕ
 first [] = []
 first (file ∷ files) = file
 
-abbrev pub goal_of : Command → List (List ℕ) → Goal
-goal_of Nquads files = lines_of (decode (first files))
-goal_of Validate files = validated (first files) (decode (first files))
-goal_of Inspect files = inspected (survey (first files))
+-- what a command writes of these files, under the strict profile or not; rows that are read alone aren't held to it
+abbrev pub goal_of : Bool → Command → List (List ℕ) → Goal
+goal_of strict Nquads files = lines_of (decode strict (first files))
+goal_of strict Validate files = validated (first files) (decode strict (first files))
+goal_of strict Inspect files = inspected (survey (first files))
 
 abbrev pub goal : Job → List (List ℕ) → Goal
-goal job files = goal_of job.command files
+goal job files = goal_of job.strict job.command files

@@ -1,5 +1,5 @@
 pub mod Gathering
 pub mod Goals
-pub mod Jobs
+pub mod Limits
 pub mod Running
 pub mod Serve

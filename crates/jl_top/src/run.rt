@@ -2,8 +2,10 @@
 ghost use Rattle.std.specs.Prelude.{◌≡◌, ◌<◌, ◌≤◌, ◌^◌, length};
 ghost use Rattle.jl_base.specs.SourceLists.{total};
 ghost use Rattle.jl_rows.specs.Decoder.{decode};
-ghost use Rattle.jl_top.specs.Jobs.{job_of, files_of};
+ghost use Rattle.jl_words.specs.Jobs.{job_of, files_of};
+ghost use Rattle.jl_words.specs.Table.{line_of};
 ghost use Rattle.jl_top.specs.Goals.{goal, inspected, lines_of, reported, validated};
+ghost use Rattle.jl_top.specs.Limits.{most_input};
 ghost use Rattle.jl_survey.specs.Surveys as spec;
 ghost use Rattle.jl_top.specs.Running.{Meets, Runs};
 
@@ -16,15 +18,15 @@ use jl_text::Notice;
 use std::alloc::Global;
 
 /// How many bytes the inputs of a job may have together.
-const LIMIT: u64 = 1 << 30;
+const MOST_INPUT: u64 = 1 << 30;
 
 // The lines of a file.
-fn write_nquads<K: Shelf>(alloc: Global, file: &Space, per: u32, out: &mut K) -> Result<(), Notice>
-    requires short { length file.now ≤ 2 ^ 30 }
-    requires some { 0 < per }
-    ensures { Meets (lines_of (decode file.now)) (K.held out.old) (K.held out.new) (K.faults out.old) (K.faults out.new) result }
+fn write_nquads<K: Shelf>(alloc: Global, file: &Space, job: &Job, out: &mut K) -> Result<(), Notice>
+    requires short { length file.now ≤ most_input }
+    requires some { 0 < job.now.run }
+    ensures { Meets (lines_of (decode job.now.strict file.now)) (K.held out.old) (K.held out.new) (K.faults out.old) (K.faults out.new) result }
 {
-    match write_lines(alloc, file, per, out) {
+    match write_lines(alloc, file, job.run, job.strict, out) {
         Ended::Whole => Ok(()),
         Ended::Malformed(fault) => Err(Notice::Malformed { file: 1, fault }),
         Ended::WriteFault => Err(Notice::WriteFault),
@@ -43,12 +45,12 @@ fn write_report<K: Shelf>(report: &Text, out: &mut K) -> Result<(), Notice>
 }
 
 // The report of a file that is decoded whole.
-fn write_valid<K: Shelf>(alloc: Global, file: &Space, per: u32, out: &mut K) -> Result<(), Notice>
-    requires short { length file.now ≤ 2 ^ 30 }
-    requires some { 0 < per }
-    ensures { Meets (validated file.now (decode file.now)) (K.held out.old) (K.held out.new) (K.faults out.old) (K.faults out.new) result }
+fn write_valid<K: Shelf>(alloc: Global, file: &Space, job: &Job, out: &mut K) -> Result<(), Notice>
+    requires short { length file.now ≤ most_input }
+    requires some { 0 < job.now.run }
+    ensures { Meets (validated file.now (decode job.now.strict file.now)) (K.held out.old) (K.held out.new) (K.faults out.old) (K.faults out.new) result }
 {
-    let tally = match count_items(alloc, file, per) {
+    let tally = match count_items(alloc, file, job.run, job.strict) {
         Ok(tally) => tally,
         Err(Refused::Malformed(fault)) => return Err(Notice::Malformed { file: 1, fault }),
         Err(Refused::NoMemory) => return Err(Notice::NoMemory),
@@ -61,7 +63,6 @@ fn write_valid<K: Shelf>(alloc: Global, file: &Space, per: u32, out: &mut K) -> 
 
 // The report of a file whose rows are read.
 fn write_survey<K: Shelf>(alloc: Global, file: &Space, out: &mut K) -> Result<(), Notice>
-    requires { length file.now ≤ 2 ^ 30 }
     ensures { Meets (inspected (spec.survey file.now)) (K.held out.old) (K.held out.new) (K.faults out.old) (K.faults out.new) result }
 {
     let survey = match survey(file) {
@@ -81,16 +82,15 @@ fn write_goal<K: Shelf>(
     files: &Seq<Space>,
     out: &mut K,
 ) -> Result<(), Notice>
-    requires some { 0 < length files.now }
-    requires within { total files.now ≤ 2 ^ 30 }
+    requires many { (line_of job.now.command).least ≤ length files.now }
+    requires within { total files.now ≤ most_input }
     requires run { 0 < job.now.run }
     ensures { Meets (goal job.now files.now) (K.held out.old) (K.held out.new) (K.faults out.old) (K.faults out.new) result }
 {
-    let file = files.at(0);
     match job.command {
-        Command::Nquads => write_nquads(alloc, file, job.run, out),
-        Command::Validate => write_valid(alloc, file, job.run, out),
-        Command::Inspect => write_survey(alloc, file, out),
+        Command::Nquads => write_nquads(alloc, files.at(0), job, out),
+        Command::Validate => write_valid(alloc, files.at(0), job, out),
+        Command::Inspect => write_survey(alloc, files.at(0), out),
     }
 }
 
@@ -107,6 +107,6 @@ pub(crate) fn run<S: Source, K: Shelf>(
     let Some(job) = job(words) else {
         return Err(Notice::Usage);
     };
-    let files = gather(alloc, sources, LIMIT)?;
+    let files = gather(alloc, sources, MOST_INPUT)?;
     write_goal(alloc, &job, &files, out)
 }

@@ -1,6 +1,7 @@
 ghost use Rattle.std.specs.Prelude.{◌≤◌};
 
 mod rows;
+mod strict;
 
 use super::*;
 use jl_base::Text;
@@ -9,6 +10,7 @@ use rows::{KINDS, LASTS, REPEATED, REPORTS, ROWS};
 use std::alloc::{AllocError, Global};
 use std::test::Fail;
 use std::thread::Threads;
+use strict::STRICT;
 
 const ROOM: usize = 16384;
 
@@ -109,6 +111,25 @@ fn reports(rt: HostRuntime) -> Result<(), Fail> {
     Ok(())
 }
 
+#[test]
+fn strict_and_not(rt: HostRuntime) -> Result<(), Fail> {
+    let alloc = rt.alloc();
+    for row in &STRICT {
+        let file = bytes_of(alloc, row.file)?;
+        let left = served(
+            &rt,
+            alloc,
+            &[row.command, row.option, "f"],
+            &file,
+            [&[], &[], &[]],
+        )?;
+        assert_eq!(rt; left.status, row.status, "at {}", row.file);
+        assert_eq!(rt; left.out.under_way(), row.out.as_bytes(), "at {}", row.file);
+        assert_eq!(rt; left.err.under_way(), row.err.as_bytes(), "at {}", row.file);
+    }
+    Ok(())
+}
+
 // Sixty-four runs of sixteen frames are a wave. Some frames more make a second one, and then the file ends in a length.
 #[test]
 fn tail_fault_behind_two_waves(rt: HostRuntime) -> Result<(), Fail> {
@@ -178,7 +199,7 @@ fn devices_that_fail_and_words_that_ask_for_nothing(rt: HostRuntime) -> Result<(
     let alloc = rt.alloc();
     let file = bytes_of(alloc, ROWS[0].file)?;
     let usage = "usage: jellyp COMMAND [--NAME=VALUE]... [FILE]...\n";
-    let rows: [(&[&str], [&[u64]; 3], u8, &[u8], &str); 9] = [
+    let rows: [(&[&str], [&[u64]; 3], u8, &[u8], &str); 10] = [
         (
             NQUADS,
             [&[2], &[], &[]],
@@ -199,6 +220,7 @@ fn devices_that_fail_and_words_that_ask_for_nothing(rt: HostRuntime) -> Result<(
         (&["nquads"], [&[], &[], &[]], 2, b"", usage),
         (&["nquads", ""], [&[], &[], &[]], 2, b"", usage),
         (&["nquads", "--f"], [&[], &[], &[]], 2, b"", usage),
+        (&["nquads", "--", "--f"], [&[], &[], &[]], 0, TRIPLE, ""),
         (&["nquads", "f", "g"], [&[], &[], &[1]], 2, b"", ""),
     ];
     for (words, fails, status, out, err) in rows {

@@ -1,12 +1,13 @@
 //! The program as one call.
-ghost use Rattle.std.specs.Prelude.{◌≡◌, ℕ, ◌+◌, ◌^◌, ◌<◌, ◌≤◌, ◌↔◌, ◌⊎◌, List, length, None};
+ghost use Rattle.std.specs.Prelude.{◌≡◌, ℕ, ◌+◌, ◌<◌, ◌≤◌, ◌↔◌, ◌⊎◌, List, length, None};
 ghost use Rattle.jl_base.specs.Causes.{Rose};
-ghost use Rattle.jl_base.specs.SourceLists.{ReadsEach, LeftEach, RoseAt, total};
+ghost use Rattle.jl_base.specs.SourceLists.{ReadsEach, LeftEach, RoseAt, SteadyEach, total};
 ghost use Rattle.jl_base.specs.declared.place.Fault.{Fault};
 ghost use Rattle.jl_text.specs.Notices.{notice_line};
-ghost use Rattle.jl_top.specs.declared.command.Job.{Job};
-ghost use Rattle.jl_top.specs.Jobs.{job_of, files_of};
+ghost use Rattle.jl_words.specs.declared.command.Job.{Job};
+ghost use Rattle.jl_words.specs.Jobs.{job_of, files_of};
 ghost use Rattle.jl_top.specs.Goals.{Ending, goal};
+ghost use Rattle.jl_top.specs.Limits.{most_input};
 ghost use Rattle.jl_top.specs.Running.{status_of};
 ghost use Rattle.jl_top.specs.Serve.{Reaches, Begins, Tells, NoneRose, ending_status, status_on};
 
@@ -70,20 +71,24 @@ pub fn serve<R: Threads + Sync, S: Source, K: Shelf, E: Sink, G: Gate>(
     ensures read_fault { result ≡ 3 → (n : ℕ) × RoseAt S.told sources.old.items sources.new.items n × (out.new ≡ out.old)
         × Tells E.held E.faults err.old err.new (notice_line (Notice.ReadFault (n + 1))) }
 
-    // 4: only where the shelf failed, after a front of the output.
+    // 4: only where the shelf failed, after a prefix of the output.
     ensures write_fault { result ≡ 4 → Rose (K.faults out.old) (K.faults out.new)
         × Begins S.told K.held (job_of words.now) sources.old.items sources.new.items out.old out.new
         × Tells E.held E.faults err.old err.new (notice_line Notice.WriteFault) }
 
-    // 5: after nothing was written, or a front of the output.
+    // 5: after nothing was written, or a prefix of the output.
     ensures no_memory { result ≡ 5
         → ((out.new ≡ out.old) ⊎ Begins S.told K.held (job_of words.now) sources.old.items sources.new.items out.old out.new)
         × Tells E.held E.faults err.old err.new (notice_line Notice.NoMemory) }
 
     // 6: exactly where more than 2^30 bytes were read of all sources.
-    ensures too_long { (read : List (List ℕ)) × ReadsEach S.told sources.old.items sources.new.items read × ((result ≡ 6) ↔ (2 ^ 30 < total read)) }
+    ensures too_long { (read : List (List ℕ)) × ReadsEach S.told sources.old.items sources.new.items read × ((result ≡ 6) ↔ (most_input < total read)) }
     ensures too_long_leaves { result ≡ 6 → (out.new ≡ out.old)
         × Tells E.held E.faults err.old err.new (notice_line Notice.TooLong) }
+
+    // A source's count of faults rises only where the status is 3, and the shelf's only where it is 4.
+    ensures sources_steady { (result ≡ 3 → ⊥) → SteadyEach S.told sources.old.items sources.new.items }
+    ensures shelf_steady { (result ≡ 4 → ⊥) → K.faults out.new ≡ K.faults out.old }
 
     // There is no other status, and below 2 it is the goal's.
     ensures known { result ≤ 6 }

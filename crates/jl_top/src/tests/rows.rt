@@ -289,7 +289,8 @@ pub const ROWS: [Row; 30] = [
 ];
 
 // For each kind a file with that fault first and nothing written before it, the fault's frame and row, and its name.
-pub const KINDS: [(&str, u8, u8, &str); 19] = [
+pub const KINDS: [(&str, u8, u8, &str); 20] = [
+    ("81808040", 1, 0, "FrameTooLong"),
     ("050a044a0312", 1, 1, "Truncated"),
     ("ffffffffffffffffffff", 1, 0, "BadVarint"),
     ("0100", 1, 1, "BadTag"),

@@ -3,10 +3,7 @@ use Rattle.jl_top.proofs.JobLemmas.{first_within}
 use Rattle.jl_top.proofs.run.write_goal.Goals as goal
 
 pub write_nquads-requires-clause-short : goal.write_nquads-requires-clause-short
-write_nquads-requires-clause-short g c = omega (arith, first_within c.args.files.now c.at-file.result.now c.at-file.ensures, c.requires.within)
+write_nquads-requires-clause-short g c = omega (arith, first_within c.args.files.now c.at.result.now c.at.ensures, c.requires.within)
 
 pub write_valid-requires-clause-short : goal.write_valid-requires-clause-short
-write_valid-requires-clause-short g c = omega (arith, first_within c.args.files.now c.at-file.result.now c.at-file.ensures, c.requires.within)
-
-pub write_survey-requires : goal.write_survey-requires
-write_survey-requires g c = omega (arith, first_within c.args.files.now c.at-file.result.now c.at-file.ensures, c.requires.within)
+write_valid-requires-clause-short g c = omega (arith, first_within c.args.files.now c.at-in-Validate.result.now c.at-in-Validate.ensures, c.requires.within)

@@ -10,4 +10,4 @@ returns-in-WriteFault g c =
 pub returns-in-NoMemory : goal.returns-in-NoMemory
 returns-in-NoMemory g c =
     let wrote = c.in-NoMemory.ensures in
-    record { given = wrote.given ∷ []; gives = WasGiven-first _ _ wrote.given wrote.adds; front = (wrote.left, wrote.lines); later = wrote.later; cause = tt }
+    record { given = wrote.given ∷ []; gives = WasGiven-first _ _ wrote.given wrote.adds; front = (wrote.left, wrote.lines); later = wrote.later; cause = wrote.steady }

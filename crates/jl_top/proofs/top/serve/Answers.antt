@@ -1,6 +1,6 @@
 use Rattle.std.proofs.Common.{Ok, Err}
 use Rattle.jl_base.proofs.SourceListLemmas.{length-ReadsEach}
-use Rattle.jl_top.proofs.Statuses.{exact, complete}
+use Rattle.jl_top.proofs.Statuses.{exact, complete, sources_steady, shelf_steady}
 use Rattle.jl_top.proofs.top.serve.Goals as goal
 
 pub returns-in-Ok-clause-number : goal.returns-in-Ok-clause-number
@@ -22,3 +22,15 @@ returns-in-Err-clause-exact g c job files asks left below =
 pub returns-in-Err-clause-complete : goal.returns-in-Err-clause-complete
 returns-in-Err-clause-complete g c job files asks left none =
     rw c.status.ensures (complete _ _ _ _ job files asks left _ _ _ _ (Err c.in-Err.notice) c.in-Err.ensures none)
+
+pub returns-in-Ok-clause-sources_steady : goal.returns-in-Ok-clause-sources_steady
+returns-in-Ok-clause-sources_steady g c other = sources_steady _ _ _ _ _ _ _ _ (Ok tt) c.in-Ok.ensures other
+
+pub returns-in-Ok-clause-shelf_steady : goal.returns-in-Ok-clause-shelf_steady
+returns-in-Ok-clause-shelf_steady g c other = shelf_steady _ _ _ _ _ _ _ _ (Ok tt) c.in-Ok.ensures other
+
+pub returns-in-Err-clause-sources_steady : goal.returns-in-Err-clause-sources_steady
+returns-in-Err-clause-sources_steady g c other = sources_steady _ _ _ _ _ _ _ _ (Err c.in-Err.notice) c.in-Err.ensures (rw c.status.ensures at other)
+
+pub returns-in-Err-clause-shelf_steady : goal.returns-in-Err-clause-shelf_steady
+returns-in-Err-clause-shelf_steady g c other = shelf_steady _ _ _ _ _ _ _ _ (Err c.in-Err.notice) c.in-Err.ensures (rw c.status.ensures at other)

@@ -9,7 +9,7 @@ use Rattle.jl_text.specs.declared.notice.Notice.{Notice}
 use Rattle.jl_text.specs.declared.notice.Notice.TheVariants as notice
 use Rattle.jl_words.specs.declared.command.Job.{Job}
 use Rattle.jl_top.specs.Goals.{Ending, goal}
-use Rattle.jl_top.specs.Limits.{most_input}
+use Rattle.jl_base.specs.Limits.{most_bytes}
 use Rattle.jl_top.specs.Serve.{Reaches, NoneRose, ending_status, status_on}
 use Rattle.jl_top.specs.Running.{Runs, status_of}
 
@@ -41,8 +41,8 @@ module _ {S : Type 0} (told : S → Told) (asked : Option Job) (before after : L
     within : (result : Result T Notice) (ending : Ending) → Runs told asked before after held faults out out' result → Reaches told held asked before after out out' ending → (result ≡ Err notice.TooLong → ⊥) → ending_status ending ≡ status_on job files
     within result ending run r other =
         let whole = reads_whole told before after run.read files left run.each r.ends in
-        let short : total files ≤ most_input = elim (cases_lt (most_input) (total run.read)) [ inl more ↦ absurd (other (run.too_long.1 more)) | inr most ↦ omega (arith, ap total whole) ] in
-        cond_above (most_input) (total files) 6 _ _ short (reached held out out' ending r)
+        let short : total files ≤ most_bytes = elim (cases_lt most_bytes (total run.read)) [ inl more ↦ absurd (other (run.too_long.1 more)) | inr most ↦ omega (arith, ap total whole) ] in
+        cond_above most_bytes (total files) 6 _ _ short (reached held out out' ending r)
 
     pub complete : (result : Result T Notice) → Runs told asked before after held faults out out' result → NoneRose told faults before after out out' → (status_by result ≡ status_on job files) ⊎ (status_by result ≡ 5)
     complete (Ok x) run none = inl (within (Ok x) _ run run.cause.0 (λ e. cc))
@@ -52,8 +52,8 @@ module _ {S : Type 0} (told : S → Told) (asked : Option Job) (before after : L
     complete (Err notice.WriteFault) run none = absurd (none.1 run.cause.1)
     complete (Err notice.NoMemory) run none = inr refl
     complete (Err notice.TooLong) run none =
-        let more : most_input < total run.read = run.too_long.0 refl in
-        inl (cond_below (most_input) (total files) 6 _ (omega (arith, total-reads_le told before after run.read files left run.each)))
+        let more : most_bytes < total run.read = run.too_long.0 refl in
+        inl (cond_below most_bytes (total files) 6 _ (omega (arith, total-reads_le told before after run.read files left run.each)))
     complete (Err (notice.TooWide item)) run none = absurd run.cause
 
 module _ {S K T : Type 0} (told : S → Told) (asked : Option Job) (before after : List S) (held : K → Option Held) (faults : K → ℕ) (out out' : K) where

@@ -9,7 +9,7 @@ use Rattle.jl_text.specs.declared.notice.Notice.{Notice}
 use Rattle.jl_text.specs.declared.notice.Notice.TheVariants as notice
 use Rattle.jl_words.specs.declared.command.Job.{Job}
 use Rattle.jl_top.specs.Goals.{Goal, Done, Malformed}
-use Rattle.jl_top.specs.Limits.{most_input}
+use Rattle.jl_base.specs.Limits.{most_bytes}
 use Rattle.jl_top.specs.Serve.{Reaches, Begins, AllSteady}
 
 -- the exit status that a notice goes with
@@ -55,5 +55,5 @@ pub record Runs {S K T : Type 0} (told : S → Told) (asked : Option Job) (befor
   pub each : ReadsEach told before after read
   pub later : faults out ≤ faults out'
   pub usage : (result ≡ Err notice.Usage) ↔ (asked ≡ None)
-  pub too_long : (result ≡ Err notice.TooLong) ↔ (most_input < total read)
+  pub too_long : (result ≡ Err notice.TooLong) ↔ (most_bytes < total read)
   pub cause : IsCaused told asked before after held faults out out' result

@@ -8,7 +8,7 @@ use Rattle.jl_base.specs.Sinks.{Held, Adds}
 use Rattle.jl_base.specs.Parts.{WasGiven, IsFront}
 use Rattle.jl_words.specs.declared.command.Job.{Job}
 use Rattle.jl_top.specs.Goals.{Ending, Done, Malformed, goal}
-use Rattle.jl_top.specs.Limits.{most_input}
+use Rattle.jl_base.specs.Limits.{most_bytes}
 
 -- Every source was read to its end, the shelf was given exactly the parts of the job's goal, and the goal ends so.
 pub record Reaches {S K : Type 0} (told : S → Told) (held : K → Option Held) (asked : Option Job) (before after : List S) (out out' : K) (ending : Ending) : Type 0 where
@@ -54,4 +54,4 @@ ending_status (Malformed file fault) = 1
 
 -- the status of a job on these files, where no device fails and memory is found
 abbrev pub status_on : Job → List (List ℕ) → ℕ
-status_on job files = if nat_lt most_input (total files) then 6 else ending_status (goal job files).ending
+status_on job files = if nat_lt most_bytes (total files) then 6 else ending_status (goal job files).ending

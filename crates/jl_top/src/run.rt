@@ -5,7 +5,7 @@ ghost use Rattle.jl_rows.specs.Decoder.{decode};
 ghost use Rattle.jl_words.specs.Jobs.{job_of, files_of};
 ghost use Rattle.jl_words.specs.Table.{line_of};
 ghost use Rattle.jl_top.specs.Goals.{goal, inspected, lines_of, reported, validated};
-ghost use Rattle.jl_top.specs.Limits.{most_input};
+ghost use Rattle.jl_base.specs.Limits.{most_bytes};
 ghost use Rattle.jl_survey.specs.Surveys as spec;
 ghost use Rattle.jl_top.specs.Running.{Meets, Runs};
 
@@ -18,11 +18,11 @@ use jl_text::Notice;
 use std::alloc::Global;
 
 /// How many bytes the inputs of a job may have together.
-const MOST_INPUT: u64 = 1 << 30;
+const MOST_BYTES: u64 = 1 << 30;
 
 // The lines of a file.
 fn write_nquads<K: Shelf>(alloc: Global, file: &Space, job: &Job, out: &mut K) -> Result<(), Notice>
-    requires short { length file.now ≤ most_input }
+    requires short { length file.now ≤ most_bytes }
     requires some { 0 < job.now.run }
     ensures { Meets (lines_of (decode job.now.strict file.now)) (K.held out.old) (K.held out.new) (K.faults out.old) (K.faults out.new) result }
 {
@@ -46,7 +46,7 @@ fn write_report<K: Shelf>(report: &Text, out: &mut K) -> Result<(), Notice>
 
 // The report of a file that is decoded whole.
 fn write_valid<K: Shelf>(alloc: Global, file: &Space, job: &Job, out: &mut K) -> Result<(), Notice>
-    requires short { length file.now ≤ most_input }
+    requires short { length file.now ≤ most_bytes }
     requires some { 0 < job.now.run }
     ensures { Meets (validated file.now (decode job.now.strict file.now)) (K.held out.old) (K.held out.new) (K.faults out.old) (K.faults out.new) result }
 {
@@ -83,7 +83,7 @@ fn write_goal<K: Shelf>(
     out: &mut K,
 ) -> Result<(), Notice>
     requires many { (line_of job.now.command).least ≤ length files.now }
-    requires within { total files.now ≤ most_input }
+    requires within { total files.now ≤ most_bytes }
     requires run { 0 < job.now.run }
     ensures { Meets (goal job.now files.now) (K.held out.old) (K.held out.new) (K.faults out.old) (K.faults out.new) result }
 {
@@ -107,6 +107,6 @@ pub(crate) fn run<S: Source, K: Shelf>(
     let Some(job) = job(words) else {
         return Err(Notice::Usage);
     };
-    let files = gather(alloc, sources, MOST_INPUT)?;
+    let files = gather(alloc, sources, MOST_BYTES)?;
     write_goal(alloc, &job, &files, out)
 }

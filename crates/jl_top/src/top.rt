@@ -7,7 +7,7 @@ ghost use Rattle.jl_text.specs.Notices.{notice_line};
 ghost use Rattle.jl_words.specs.declared.command.Job.{Job};
 ghost use Rattle.jl_words.specs.Jobs.{job_of, files_of};
 ghost use Rattle.jl_top.specs.Goals.{Ending, goal};
-ghost use Rattle.jl_top.specs.Limits.{most_input};
+ghost use Rattle.jl_base.specs.Limits.{most_bytes};
 ghost use Rattle.jl_top.specs.Running.{status_of};
 ghost use Rattle.jl_top.specs.Serve.{Reaches, Begins, Tells, NoneRose, ending_status, status_on};
 
@@ -82,7 +82,7 @@ pub fn serve<R: Threads + Sync, S: Source, K: Shelf, E: Sink, G: Gate>(
         × Tells E.held E.faults err.old err.new (notice_line Notice.NoMemory) }
 
     // 6: exactly where more than 2^30 bytes were read of all sources.
-    ensures too_long { (read : List (List ℕ)) × ReadsEach S.told sources.old.items sources.new.items read × ((result ≡ 6) ↔ (most_input < total read)) }
+    ensures too_long { (read : List (List ℕ)) × ReadsEach S.told sources.old.items sources.new.items read × ((result ≡ 6) ↔ (most_bytes < total read)) }
     ensures too_long_leaves { result ≡ 6 → (out.new ≡ out.old)
         × Tells E.held E.faults err.old err.new (notice_line Notice.TooLong) }
 

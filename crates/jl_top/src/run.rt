@@ -4,6 +4,7 @@ ghost use Rattle.jl_base.specs.SourceLists.{total};
 ghost use Rattle.jl_rows.specs.Decoder.{decode};
 ghost use Rattle.jl_words.specs.Jobs.{job_of, files_of};
 ghost use Rattle.jl_words.specs.Table.{line_of};
+ghost use Rattle.jl_top.specs.Goals as goals;
 ghost use Rattle.jl_top.specs.Goals.{goal, inspected, lines_of, reported, validated};
 ghost use Rattle.jl_base.specs.Limits.{most_bytes};
 ghost use Rattle.jl_survey.specs.Surveys as spec;
@@ -75,6 +76,14 @@ fn write_survey<K: Shelf>(alloc: Global, file: &Space, out: &mut K) -> Result<()
     }
 }
 
+fn first(files: &Seq<Space>) -> &Space
+    requires { 0 < length files.now }
+    ensures is { result.now ≡ goals.first files.now }
+    ensures within { length result.now ≤ total files.now }
+{
+    files.at(0)
+}
+
 // What the job's goal has for these files.
 fn write_goal<K: Shelf>(
     alloc: Global,
@@ -88,9 +97,9 @@ fn write_goal<K: Shelf>(
     ensures { Meets (goal job.now files.now) (K.held out.old) (K.held out.new) (K.faults out.old) (K.faults out.new) result }
 {
     match job.command {
-        Command::Nquads => write_nquads(alloc, files.at(0), job, out),
-        Command::Validate => write_valid(alloc, files.at(0), job, out),
-        Command::Inspect => write_survey(alloc, files.at(0), out),
+        Command::Nquads => write_nquads(alloc, first(files), job, out),
+        Command::Validate => write_valid(alloc, first(files), job, out),
+        Command::Inspect => write_survey(alloc, first(files), out),
     }
 }
 

@@ -1,0 +1,54 @@
+-- The rows of runs, one after another, and of a file.
+use Rattle.std.proofs.Common.{◌≡◌, ℕ, ◌+◌, ◌-◌, ◌≤◌, List, [], ◌∷◌, length, map, slice_range, Option, ap, sym, ◌∙◌, arith}
+use Rattle.std.proofs.lemmas.List.{length-map, take_all}
+use Rattle.jl_base.specs.Results.{Reading, joined}
+use Rattle.jl_base.specs.Spans.{text_of}
+use Rattle.jl_base.specs.declared.kind.Kind.{Kind}
+use Rattle.jl_base.specs.declared.place.Fault.{Fault}
+use Rattle.jl_base.specs.declared.place.Run.{Run}
+use Rattle.jl_base.specs.declared.place.Span.{Span}
+use Rattle.jl_rows.specs.Files.{Placed, ends_at, frame_rows, frames, rows_from, rows_then}
+use Rattle.jl_frames.specs.Index.{Index}
+use Rattle.jl_frames.specs.Runs.{Cover}
+use Rattle.jl_tape.specs.Runs.{FramesAreFile, RunThen, RunsCover, between, no_rows, run_begin, run_end, run_rows}
+use Rattle.jl_tape.proofs.Stretches.{between_none, between_split}
+
+pub run_then : RunThen
+run_then bytes index run end B within inside =
+    between_split bytes index (run_begin index run) (run_end index run) end B (omega arith) within inside
+
+cover_above : (index : Index) (k : ℕ) (runs : List Run) (end : ℕ) → Cover index k runs end → k ≤ end
+cover_above index k [] end same = omega (arith, same)
+cover_above index k (run ∷ runs) end all = omega (arith, cover_above index (k + run.frames) runs end all.2)
+
+pub runs_cover : RunsCover
+runs_cover bytes index k [] end B same inside = between_none bytes index k end B (omega (arith, same))
+runs_cover bytes index k (run ∷ runs) end B all inside =
+    let above = cover_above index (k + run.frames) runs end all.2 in
+    let number : run.first_frame ≡ index.first + k = ap (λ (r : Run). r.first_frame) all.0 in
+    let begin : run_begin index run ≡ k = omega (arith, number) in
+    let le : k ≤ k + run.frames = omega arith in
+    let this : between bytes index k (k + run.frames) no_rows ≡ run_rows bytes index run = ap (λ (i : ℕ). between bytes index i (i + run.frames) no_rows) (sym begin) in
+    between_split bytes index k (k + run.frames) end B le above inside
+    ∙ ap (λ (R : Reading Placed Fault). joined R (between bytes index (k + run.frames) end B)) this
+    ∙ ap (joined (run_rows bytes index run)) (runs_cover bytes index (k + run.frames) runs end B all.2 inside)
+
+-- the rows of frames, and the fault after them
+then_tail : (n m : ℕ) (xs : List (List ℕ)) (fault : Option Kind) → m ≡ n + length xs → rows_then n xs (record { items = []; fault = ends_at m 0 fault }) ≡ rows_from n xs fault
+unfolding rows_from
+then_tail n m [] fault e = let same : m ≡ n = omega (arith, e) in ap (λ (k : ℕ). record { items = []; fault = ends_at k 0 fault }) same
+then_tail n m (x ∷ xs) fault e =
+    let next : m ≡ (n + 1) + length xs = omega (arith, e) in
+    ap (joined (frame_rows n x)) (then_tail (n + 1) m xs fault next)
+
+pub frames_are_file : FramesAreFile
+frames_are_file file index is =
+    let all : slice_range index.bodies 0 (length index.bodies) ≡ index.bodies = take_all (length index.bodies - 0) index.bodies (omega arith) in
+    let size : length index.bodies ≡ length (frames file).items = sym (length-map index.bodies (text_of file)) ∙ ap length is.bodies in
+    let number : length index.bodies + 1 ≡ 1 + length (frames file).items = omega (arith, size) in
+    let one : index.first + 0 ≡ 1 = omega (arith, is.first) in
+    ap (λ (xs : List Span). rows_then (index.first + 0) (map (text_of file) xs) (record { items = []; fault = index.tail })) all
+    ∙ ap (λ (n : ℕ). rows_then n (map (text_of file) index.bodies) (record { items = []; fault = index.tail })) one
+    ∙ ap (λ (xs : List (List ℕ)). rows_then 1 xs (record { items = []; fault = index.tail })) is.bodies
+    ∙ ap (λ (f : Option Fault). rows_then 1 (frames file).items (record { items = []; fault = f })) is.tail
+    ∙ then_tail 1 (length index.bodies + 1) (frames file).items (frames file).fault number

@@ -1,0 +1,6 @@
+use Rattle.jl_tape.proofs.Stretches.{index_laid}
+use Rattle.jl_tape.proofs.tests.reads.Goals as goal
+
+pub read_run-requires-clause-laid : goal.read_run-requires-clause-laid
+read_run-requires-clause-laid g c =
+    rw c.bytes-bytes.ensures.all (index_laid c.args.space.now c.args.frames.now c.requires)

@@ -1,5 +1,5 @@
 //! The terms of the last statement.
-ghost use Rattle.std.specs.Prelude.{◌≡◌, Some, None, Option, OnOk};
+ghost use Rattle.std.specs.Prelude.{◌≡◌, Some, None, Option, IsTrue, OnOk};
 ghost use Rattle.std.specs.Option.{option_map};
 ghost use Rattle.jl_base.specs.Items.{value_of};
 ghost use Rattle.jl_encoding.specs.Sameness.{is_value};
@@ -37,7 +37,8 @@ impl Lasts {
 
 // Whether the term is the last one.
 fn is_last(last: &Option<Term>, term: &Term) -> bool
-    ensures { result ≡ is_value (value_of term.now) (option_map value_of last.now) }
+    ensures is { result ≡ is_value (value_of term.now) (option_map value_of last.now) }
+    ensures same { IsTrue result → option_map value_of last.now ≡ Some (value_of term.now) }
 {
     match last {
         Some(held) => held.same(term),

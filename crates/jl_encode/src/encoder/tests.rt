@@ -4,7 +4,7 @@ ghost use Rattle.jl_encoding.specs.Encoding.{options_of};
 ghost use Rattle.jl_encoding.specs.Items.{Fits};
 
 use super::Encoder;
-use crate::Stop;
+use crate::{Stop, encode};
 use jl_base::{Item, Tail, Term, Text, Three};
 use jl_encoding::Form;
 use jl_io::MemShelf;
@@ -114,16 +114,16 @@ fn no_items(rt: HostRuntime) -> Result<(), Fail> {
     Ok(())
 }
 
-fn bnode(alloc: Global) -> Result<Term, Fail> {
-    Ok(Term::Bnode(Text::from_bytes(alloc, b"b")?))
+fn node(alloc: Global, label: &str) -> Result<Term, Fail> {
+    Ok(Term::Bnode(Text::from_bytes(alloc, label.as_bytes())?))
 }
 
 fn quad(alloc: Global) -> Result<Box<Item>, Fail> {
-    let subject = bnode(alloc)?;
-    let predicate = bnode(alloc)?;
+    let subject = node(alloc, "b")?;
+    let predicate = node(alloc, "b")?;
     boxed(
         alloc,
-        Item::Quad(subject, predicate, bnode(alloc)?, Term::Default),
+        Item::Quad(subject, predicate, node(alloc, "b")?, Term::Default),
     )
 }
 
@@ -259,5 +259,43 @@ fn failing_finish(rt: HostRuntime) -> Result<(), Fail> {
     assert!(rt; matches!(finish(&mut encoder, &mut shelf), Err(Stop::WriteFault)));
     assert!(rt; matches!(finish(&mut encoder, &mut shelf), Err(Stop::Spent)));
     assert_eq!(rt; shelf.under_way(), b"\x2A".as_slice());
+    Ok(())
+}
+
+fn of_nodes(alloc: Global, object: &str) -> Result<Item, Fail> {
+    let subject = node(alloc, "a")?;
+    let predicate = node(alloc, "b")?;
+    Ok(Item::Triple(subject, predicate, node(alloc, object)?))
+}
+
+fn encode_three(
+    rt: &impl Abort,
+    alloc: Global,
+    items: &[Item; 3],
+    shelf: &mut MemShelf,
+) -> Result<(), Stop> {
+    let [first, second, third] = items;
+    assert!(rt; fits(Form::Triples, first));
+    assert!(rt; fits(Form::Triples, second));
+    assert!(rt; fits(Form::Triples, third));
+    encode(alloc, Form::Triples, 2, items, shelf)
+}
+
+// Of three items the last one stands in a second frame.
+#[test]
+fn two_to_a_frame(rt: HostRuntime) -> Result<(), Fail> {
+    let wanted =
+        b"\x28\x0A\x12\x0A\x10\x10\x01\x18\x01\x20\x01\x48\xA0\x1F\x50\x96\x01\x58\x20\x78\x02\
+        \x0A\x0B\x12\x09\x12\x01a\x32\x01b\x52\x01c\x0A\x05\x12\x03\x52\x01d\
+        \x07\x0A\x05\x12\x03\x52\x01c";
+    let mut shelf = shelf(rt.alloc(), &[])?;
+    let alloc = rt.alloc();
+    let items = [
+        of_nodes(alloc, "c")?,
+        of_nodes(alloc, "d")?,
+        of_nodes(alloc, "c")?,
+    ];
+    encode_three(&rt, alloc, &items, &mut shelf)?;
+    assert_eq!(rt; shelf.under_way(), wanted.as_slice());
     Ok(())
 }

@@ -28,6 +28,7 @@ fn lines_of_a_file(rt: HostRuntime) -> Result<(), Fail> {
     ];
     for (file, room, whole, lines) in files {
         let space = Space::from_bytes(alloc, file)?;
+        assert!(rt; space.bytes().len() < 100);
         let mut shelf = MemShelf::new(alloc, 100, room, 1, &[])?;
         match write_lines(alloc, &space, 16, &mut shelf) {
             Ended::Whole => assert!(rt; whole),
@@ -48,6 +49,7 @@ fn items_of_a_file(rt: HostRuntime) -> Result<(), Fail> {
     let files: [(&[u8], u64, u64); 3] = [(b"", 0, 0), (b"\0\0", 2, 0), (ONE, 1, 1)];
     for (file, frames, statements) in files {
         let space = Space::from_bytes(alloc, file)?;
+        assert!(rt; space.bytes().len() < 100);
         let tally = Tally {
             frames,
             statements,
@@ -59,6 +61,7 @@ fn items_of_a_file(rt: HostRuntime) -> Result<(), Fail> {
         }
     }
     let space = Space::from_bytes(alloc, FAULTY)?;
+    assert!(rt; space.bytes().len() < 100);
     match count_items(alloc, &space, 1) {
         Err(Refused::Malformed(found)) => assert_eq!(rt; found.kind, Kind::NoEntry),
         _ => assert!(rt; false),

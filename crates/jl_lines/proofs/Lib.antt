@@ -1,7 +1,9 @@
 pub mod Appending
 pub mod Graphs
 pub mod GoingLemmas
-pub mod Parting
+pub mod Stretching
+pub mod GivingLemmas
+pub mod Waving
 pub mod Endings
 pub mod Pages
 pub mod Repeating

@@ -1,13 +1,13 @@
 -- What a row leaves of the last terms.
-use Rattle.std.proofs.Common.{◌≡◌, ℕ, Bool, true, false, not, is_some, List, [], ◌∷◌, Option, Some, None, Result, Ok, Err, nat_lt, length, refl, ap, sym, ◌∙◌, cond, subst}
+use Rattle.std.proofs.Common.{◌≡◌, ◌==◌, ◌&&◌, ℕ, Bool, true, false, not, is_some, List, [], ◌∷◌, Option, Some, None, Result, Ok, Err, nat_lt, length, refl, ap, sym, ◌∙◌, cond, subst}
 use Rattle.jl_base.specs.Results.{◌>>=◌, refuse_if, some_or}
 use Rattle.jl_base.specs.Terms.{Value, Item}
 use Rattle.jl_base.specs.declared.kind.Kind.{Kind}
-use Rattle.jl_base.specs.declared.kind.Kind.TheVariants.{OptionsDiffer, WrongRow, BadEntry, NoTerm, NoGraph, GraphOpen}
+use Rattle.jl_base.specs.declared.kind.Kind.TheVariants.{OptionsDiffer, WrongRow, BadEntry, NoTerm, NoGraph, GraphOpen, EarlyNamespace}
 use Rattle.jl_rows.specs.declared.row.Table.{Table}
 use Rattle.jl_rows.specs.Written.{Ids, Term, StreamOptions, Row}
-use Rattle.jl_rows.specs.Values.{Slots}
-use Rattle.jl_rows.specs.Decoder.{is_same, is_wrong_row, stated}
+use Rattle.jl_rows.specs.Values.{Position, Slots}
+use Rattle.jl_rows.specs.Decoder.{guarded, is_same, is_wrong_row, read_under, row_guarded, stated}
 use Rattle.jl_rows.proofs.Binding.{bound}
 use Rattle.jl_state.specs.States.{State, entry_of, table_of, slots_in}
 use Rattle.jl_state.specs.Steps.{placed, graph_for, looked, text_at, ids_after, Stepped, entry_step, entered, id_after, step, row_step, triple_step, quad_step}
@@ -79,7 +79,9 @@ start_left o g t t' items e =
 
 namespace_left : (o : StreamOptions) (name : List ℕ) (i : Option Ids) (t t' : State) (items : List Item) → row_step o (Row.Namespace name i) t ≡ Ok (t', items) → Left t t'
 namespace_left o name i t t' items e =
-    let b = bound {B = State × List Item} (some_or i NoTerm) (λ ids. text_at (slots_in t) (ids_after ids t.ids) >>= λ iri. Ok (record t { ids = ids_after ids t.ids }, Item.Namespace name iri ∷ [])) (t', items) e in
+    let a = bound {B = State × List Item} (refuse_if (o.strict && (o.version == 1)) EarlyNamespace)
+    (λ _. some_or i NoTerm >>= λ ids. text_at (slots_in t) (ids_after ids t.ids) >>= λ iri. Ok (record t { ids = ids_after ids t.ids }, Item.Namespace name iri ∷ [])) (t', items) e in
+    let b = bound {B = State × List Item} (some_or i NoTerm) (λ ids. text_at (slots_in t) (ids_after ids t.ids) >>= λ iri. Ok (record t { ids = ids_after ids t.ids }, Item.Namespace name iri ∷ [])) (t', items) a.then in
     let c = bound {B = State × List Item} (text_at (slots_in t) (ids_after b.value t.ids)) (λ iri. Ok (record t { ids = ids_after b.value t.ids }, Item.Namespace name iri ∷ [])) (t', items) b.then in
     left t t' (record t { ids = ids_after b.value t.ids }) (Item.Namespace name c.value ∷ []) items (record { subject = refl; predicate = refl; object = refl }) c.then
 
@@ -169,16 +171,54 @@ row_nothing o (Row.Namespace name i) t t' e = namespace_left o name i t t' [] e
 row_nothing o (Row.Triple s p ob) t t' e = absurd ((triple_placed o s p ob t t' [] e).stated refl)
 row_nothing o (Row.Quad s p ob g) t t' e = absurd ((quad_placed s p ob g t t' [] e).stated refl)
 
+-- a row that repeats a term repeats it however it is read
+module _ (o : StreamOptions) where
+  subject_guarded : (r : Row) → RepeatsSubject r → RepeatsSubject (row_guarded o r)
+  subject_guarded (Row.Options p) k = tt
+  subject_guarded (Row.Entry u id text) k = tt
+  subject_guarded Row.GraphEnd k = tt
+  subject_guarded (Row.GraphStart g) k = tt
+  subject_guarded (Row.Namespace name i) k = tt
+  subject_guarded (Row.Triple s p ob) k = ap (guarded o Position.Subject) k
+  subject_guarded (Row.Quad s p ob g) k = ap (guarded o Position.Subject) k
+
+  predicate_guarded : (r : Row) → RepeatsPredicate r → RepeatsPredicate (row_guarded o r)
+  predicate_guarded (Row.Options p) k = tt
+  predicate_guarded (Row.Entry u id text) k = tt
+  predicate_guarded Row.GraphEnd k = tt
+  predicate_guarded (Row.GraphStart g) k = tt
+  predicate_guarded (Row.Namespace name i) k = tt
+  predicate_guarded (Row.Triple s p ob) k = ap (guarded o Position.Predicate) k
+  predicate_guarded (Row.Quad s p ob g) k = ap (guarded o Position.Predicate) k
+
+  object_guarded : (r : Row) → RepeatsObject r → RepeatsObject (row_guarded o r)
+  object_guarded (Row.Options p) k = tt
+  object_guarded (Row.Entry u id text) k = tt
+  object_guarded Row.GraphEnd k = tt
+  object_guarded (Row.GraphStart g) k = tt
+  object_guarded (Row.Namespace name i) k = tt
+  object_guarded (Row.Triple s p ob) k = ap (guarded o Position.Object) k
+  object_guarded (Row.Quad s p ob g) k = ap (guarded o Position.Object) k
+
+-- what holds of a row and of the row with each term at its position holds of the row as it is read
+read_so : (P : Row → Type 0) (b : Bool) (x y : Row) → P x → P y → P (cond b x y)
+read_so P true x y p q = p
+read_so P false x y p q = q
+
 -- the same of a step
-pub step_subject : (o : StreamOptions) (r : Row) (t t' : State) (items : List Item) → RepeatsSubject r → step o r t ≡ Ok (t', items) → t'.subject ≡ t.subject
-step_subject o r t t' items k e = let b = bound {B = State × List Item} (refuse_if (is_wrong_row o r) WrongRow) (λ _. row_step o r t) (t', items) e in row_subject o r t t' items k b.then
+module _ (o : StreamOptions) (r : Row) (t t' : State) where
+  taken : (items : List Item) → step o r t ≡ Ok (t', items) → row_step o (read_under o r) t ≡ Ok (t', items)
+  taken items e = let b = bound {B = State × List Item} (refuse_if (is_wrong_row o r) WrongRow) (λ _. row_step o (read_under o r) t) (t', items) e in b.then
 
-pub step_predicate : (o : StreamOptions) (r : Row) (t t' : State) (items : List Item) → RepeatsPredicate r → step o r t ≡ Ok (t', items) → t'.predicate ≡ t.predicate
-step_predicate o r t t' items k e = let b = bound {B = State × List Item} (refuse_if (is_wrong_row o r) WrongRow) (λ _. row_step o r t) (t', items) e in row_predicate o r t t' items k b.then
+  pub step_subject : (items : List Item) → RepeatsSubject r → step o r t ≡ Ok (t', items) → t'.subject ≡ t.subject
+  step_subject items k e = row_subject o (read_under o r) t t' items (read_so RepeatsSubject o.strict (row_guarded o r) r (subject_guarded o r k) k) (taken items e)
 
-pub step_object : (o : StreamOptions) (r : Row) (t t' : State) (items : List Item) → RepeatsObject r → step o r t ≡ Ok (t', items) → t'.object ≡ t.object
-step_object o r t t' items k e = let b = bound {B = State × List Item} (refuse_if (is_wrong_row o r) WrongRow) (λ _. row_step o r t) (t', items) e in row_object o r t t' items k b.then
+  pub step_predicate : (items : List Item) → RepeatsPredicate r → step o r t ≡ Ok (t', items) → t'.predicate ≡ t.predicate
+  step_predicate items k e = row_predicate o (read_under o r) t t' items (read_so RepeatsPredicate o.strict (row_guarded o r) r (predicate_guarded o r k) k) (taken items e)
 
--- a row that states nothing leaves all three
-pub step_nothing : (o : StreamOptions) (r : Row) (t t' : State) → step o r t ≡ Ok (t', []) → Left t t'
-step_nothing o r t t' e = let b = bound {B = State × List Item} (refuse_if (is_wrong_row o r) WrongRow) (λ _. row_step o r t) (t', []) e in row_nothing o r t t' b.then
+  pub step_object : (items : List Item) → RepeatsObject r → step o r t ≡ Ok (t', items) → t'.object ≡ t.object
+  step_object items k e = row_object o (read_under o r) t t' items (read_so RepeatsObject o.strict (row_guarded o r) r (object_guarded o r k) k) (taken items e)
+
+  -- a row that states nothing leaves all three
+  pub step_nothing : step o r t ≡ Ok (t', []) → Left t t'
+  step_nothing e = row_nothing o (read_under o r) t t' (taken [] e)

@@ -5,9 +5,9 @@ use Rattle.jl_base.specs.Terms.{Item}
 use Rattle.jl_base.specs.Results.{Reading}
 use Rattle.jl_base.specs.declared.place.Fault.{Fault}
 use Rattle.jl_lines.specs.declared.decoding.Counts.{Counts}
-use Rattle.jl_lines.specs.declared.count.Refused.{Refused}
-use Rattle.jl_lines.specs.declared.count.Refused.TheVariants as refused
-use Rattle.jl_lines.specs.declared.count.Tally.{Tally}
+use Rattle.jl_lines.specs.declared.decoding.Refused.{Refused}
+use Rattle.jl_lines.specs.declared.decoding.Refused.TheVariants as refused
+use Rattle.jl_lines.specs.declared.file.Tally.{Tally}
 
 abbrev pub is_statement : Item → Bool
 is_statement (Item.Triple s p o) = true
@@ -31,13 +31,11 @@ with_counted counts items = record { statements = counts.statements + statements
 abbrev pub none_counted : Counts
 none_counted = record { statements = 0; namespaces = 0 }
 
--- The counts of what a file states, or its first fault. Want of memory is free.
-abbrev pub CountsItems : Reading Item Fault → Result Counts Refused → Type 0
-CountsItems said (Ok counts) = (said.fault ≡ None) × (counts ≡ with_counted none_counted said.items)
-CountsItems said (Err (refused.Malformed fault)) = said.fault ≡ Some fault
-CountsItems said (Err refused.NoMemory) = Unit {0}
+-- those of a tally
+abbrev pub counts_of : Tally → Counts
+counts_of tally = record { statements = tally.statements; namespaces = tally.namespaces }
 
--- The same, with the number of frames.
+-- The counts of what a file states, with the number of frames; or its first fault. Want of memory is free.
 abbrev pub Tallies : ℕ → Reading Item Fault → Result Tally Refused → Type 0
 Tallies count said (Ok tally) = (said.fault ≡ None) × (tally ≡ record { frames = count; statements = statements said.items; namespaces = namespaces said.items })
 Tallies count said (Err (refused.Malformed fault)) = said.fault ≡ Some fault

@@ -5,3 +5,5 @@ pub mod Kept
 pub mod Writes
 pub mod Writings
 pub mod Going
+pub mod Stretches
+pub mod Giving

@@ -1,20 +1,19 @@
-//! The decoding of rows, one after another: the state behind them, what was written of their items, and how many items
+//! The decoding of rows, one after another: the state after them, what was written of their items, and how many items
 //! they state.
-ghost use Rattle.std.specs.Prelude.{◌≡◌, ◌+◌, ◌<◌, ◌≤◌, ◌^◌, IfOk, OnOk, length};
+ghost use Rattle.std.specs.Prelude.{◌≡◌, [], ◌+◌, ◌<◌, ◌≤◌, ◌^◌, IfOk, OnOk, length};
 ghost use Rattle.jl_rows.specs.Heads.{ArePassed};
 ghost use Rattle.jl_state.specs.States.{opening};
 ghost use Rattle.jl_rows.specs.Seen.{options_seen, row_seen, HasRow};
 ghost use Rattle.jl_state.specs.Steps.{step};
 ghost use Rattle.jl_state.specs.Lawful.{state_seen};
 ghost use Rattle.jl_lines.specs.Kept.{Keeps};
-ghost use Rattle.jl_lines.specs.Pages.{KeepsNone};
-ghost use Rattle.jl_lines.specs.Going.{Gives, TakesRow, made, none_made};
-ghost use Rattle.jl_lines.specs.Writings.{written};
+ghost use Rattle.jl_lines.specs.Counts.{none_counted};
+ghost use Rattle.jl_lines.specs.Going.{TakesRow, counted};
 
 use crate::line::Repeats;
 use crate::page::Page;
 use crate::writing::Writing;
-use jl_base::{Fault, Sink, write_all};
+use jl_base::Fault;
 use jl_rows::{Options, Row};
 use jl_state::{State, Stated, Stop};
 use std::alloc::{AllocError, Global};
@@ -40,10 +39,9 @@ pub struct Decoding {
 
 /// Why no further row is taken.
 #[derive(Clone, Copy, Debug)]
-pub enum Broken {
-    /// The file's first fault; the lines before it are on the page, or were given.
+pub enum Refused {
+    /// The file's first fault.
     Malformed(Fault),
-    WriteFault,
     NoMemory,
 }
 
@@ -59,7 +57,8 @@ impl Decoding {
         ensures exact { IfOk result (λ d. state_seen bytes.now d.state ≡ opening (options_seen bytes.now options.now)) }
         ensures kept { IfOk result (Keeps bytes.now) }
         ensures options { IfOk result (λ d. d.state.options ≡ options.now) }
-        ensures none { IfOk result (λ d. made d ≡ none_made) }
+        ensures empty { IfOk result (λ d. d.page.lines ≡ []) }
+        ensures none { IfOk result (λ d. d.counts ≡ none_counted) }
         ensures writing { IfOk result (λ d. d.writing ≡ writing) }
     {
         let state = State::opening(alloc, bytes, options)?;
@@ -80,12 +79,12 @@ impl Decoding {
         requires kept { Keeps bytes.now self.old }
         requires inside { HasRow bytes.now row.now }
         requires short { length bytes.now ≤ 2 ^ 30 }
-        requires few { self.old.counts.statements + self.old.counts.namespaces < 2 ^ 30 }
-        ensures exact { TakesRow (written self.old.writing) bytes.now (step (options_seen bytes.now self.old.state.options) (row_seen bytes.now row.now) (state_seen bytes.now self.old.state)) (made self.old) self.new result }
+        requires few { counted self.old < 2 ^ 63 }
+        ensures exact { TakesRow bytes.now (step (options_seen bytes.now self.old.state.options) (row_seen bytes.now row.now) (state_seen bytes.now self.old.state)) self.old self.new result }
         ensures kept { OnOk result (Keeps bytes.now self.new) }
         ensures options { self.new.state.options ≡ self.old.state.options }
         ensures writing { self.new.writing ≡ self.old.writing }
-        ensures few { self.new.counts.statements + self.new.counts.namespaces ≤ self.old.counts.statements + self.old.counts.namespaces + 1 }
+        ensures few { counted self.new ≤ counted self.old + 1 }
     {
         let repeats = Repeats::of(bytes, row);
         match self.state.step(alloc, bytes, row)? {
@@ -101,22 +100,6 @@ impl Decoding {
                     .namespace(&mut self.page, bytes, name, prefix, iri)?;
             }
         }
-        Ok(())
-    }
-
-    // Gives the sink the lines.
-    pub(crate) fn give<K: Sink>(&mut self, out: &mut K) -> Result<(), Broken>
-        ensures gives { Gives self.old.page.lines self.new.page.lines (K.held out.old) (K.held out.new) (K.faults out.old) (K.faults out.new) result }
-        ensures kept { OnOk result (KeepsNone self.new.page) }
-        ensures later { K.faults out.old ≤ K.faults out.new }
-        ensures state { self.new.state ≡ self.old.state }
-        ensures counts { self.new.counts ≡ self.old.counts }
-        ensures writing { self.new.writing ≡ self.old.writing }
-    {
-        if write_all(out, self.page.lines()).is_err() {
-            return Err(Broken::WriteFault);
-        }
-        self.page.clear();
         Ok(())
     }
 

@@ -8,18 +8,22 @@
 
 mod count;
 mod decoding;
+mod file;
 mod frame;
 mod known;
 mod line;
 mod nowhere;
 mod page;
 mod placing;
-mod runs;
 mod statement;
+mod stretch;
 #[cfg(test)]
 mod tests;
+mod waves;
 mod write;
 mod writing;
 
-pub use count::{Refused, Tally, count_items};
+pub use count::count_items;
+pub use decoding::Refused;
+pub use file::Tally;
 pub use write::{Ended, write_lines};

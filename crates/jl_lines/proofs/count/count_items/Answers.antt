@@ -1,6 +1,9 @@
-use Rattle.std.proofs.Common.{arith}
-use Rattle.jl_rows.proofs.FileLaws.{short_file}
+use Rattle.std.proofs.Common.{[], None, length}
+use Rattle.jl_rows.specs.Decoder.{decode}
+use Rattle.jl_rows.specs.Files.{frames}
+use Rattle.jl_lines.proofs.Endings.{tallied}
 use Rattle.jl_lines.proofs.count.count_items.Goals as goal
 
-pub index-requires : goal.index-requires
-index-requires c = short_file c.args.space.now (omega arith)
+pub returns-in-Ok : goal.returns-in-Ok
+returns-in-Ok c =
+    tallied (λ item. []) (decode c.args.strict c.args.space.now) (record { held = None; faults = 0 }) (record { held = None; faults = 0 }) c.in-Ok.tally (length (frames c.args.space.now).items) c.in-Ok.ensures.delivers c.in-Ok.ensures.frames

@@ -8,9 +8,10 @@ use Rattle.jl_base.specs.declared.place.Fault.{Fault}
 use Rattle.jl_base.specs.declared.place.Run.{Run}
 use Rattle.jl_base.specs.declared.place.Span.{Span}
 use Rattle.jl_rows.specs.Files.{Placed, ends_at, frame_rows, frames, rows_from, rows_then}
-use Rattle.jl_frames.specs.Index.{Index}
-use Rattle.jl_frames.specs.Runs.{Cover}
-use Rattle.jl_tape.specs.Runs.{FramesAreFile, RunThen, RunsCover, between, no_rows, run_begin, run_end, run_rows}
+use Rattle.jl_frames.specs.Index.{Index, behind}
+use Rattle.jl_frames.specs.Runs.{Cover, frames_before}
+use Rattle.jl_frames.proofs.RunLemmas.{run_in_cover}
+use Rattle.jl_tape.specs.Runs.{FramesAreFile, PlannedRuns, RunThen, RunsCover, between, no_rows, run_begin, run_end, run_rows}
 use Rattle.jl_tape.proofs.Stretches.{between_none, between_split}
 
 pub run_then : RunThen
@@ -32,6 +33,19 @@ runs_cover bytes index k (run ∷ runs) end B all inside =
     between_split bytes index k (k + run.frames) end B le above inside
     ∙ ap (λ (R : Reading Placed Fault). joined R (between bytes index (k + run.frames) end B)) this
     ∙ ap (joined (run_rows bytes index run)) (runs_cover bytes index (k + run.frames) runs end B all.2 inside)
+
+pub planned_runs : PlannedRuns
+planned_runs index runs i run cover e =
+    let is = run_in_cover index 0 runs (length index.bodies) i run cover e in
+    let k = 0 + frames_before runs i in
+    let number : run.first_frame ≡ index.first + k = ap (λ (r : Run). r.first_frame) is.begins in
+    let begin : k ≡ run_begin index run = omega (arith, number) in
+    let within = is.within in
+    record {
+      within = record { begin = omega (arith, number); end = omega (arith, begin, within) };
+      lo = ap (λ (r : Run). r.lo) is.begins ∙ ap (behind index) begin;
+      hi = ap (λ (r : Run). r.hi) is.begins ∙ ap (λ (n : ℕ). behind index (n + run.frames)) begin;
+    }
 
 -- the rows of frames, and the fault after them
 then_tail : (n m : ℕ) (xs : List (List ℕ)) (fault : Option Kind) → m ≡ n + length xs → rows_then n xs (record { items = []; fault = ends_at m 0 fault }) ≡ rows_from n xs fault

@@ -1,11 +1,11 @@
 -- The rows of runs, and of the frames that they cover.
-use Rattle.std.specs.Prelude.{◌≡◌, ℕ, ◌+◌, ◌-◌, ◌≤◌, List, [], ◌∷◌, length, map, slice_range, None}
+use Rattle.std.specs.Prelude.{◌≡◌, ℕ, ◌+◌, ◌-◌, ◌≤◌, List, [], ◌∷◌, length, map, slice_get, slice_range, Some, None}
 use Rattle.jl_base.specs.Results.{Reading, joined}
 use Rattle.jl_base.specs.Spans.{text_of}
 use Rattle.jl_base.specs.declared.place.Fault.{Fault}
 use Rattle.jl_base.specs.declared.place.Run.{Run}
 use Rattle.jl_rows.specs.Files.{Placed, all_rows, rows_then}
-use Rattle.jl_frames.specs.Index.{Index, IsIndex}
+use Rattle.jl_frames.specs.Index.{Index, IsIndex, behind}
 use Rattle.jl_frames.specs.Runs.{Cover}
 
 abbrev pub no_rows : Reading Placed Fault
@@ -35,6 +35,16 @@ run_rows bytes index run = between bytes index (run_begin index run) (run_end in
 abbrev pub runs_then : List ℕ → Index → List Run → Reading Placed Fault → Reading Placed Fault
 runs_then bytes index [] B = B
 runs_then bytes index (run ∷ runs) B = joined (run_rows bytes index run) (runs_then bytes index runs B)
+
+-- A run of frames of the index, from where the first one's length stands to where the last one ends.
+pub record IsLaidIn (index : Index) (run : Run) : Type 0 where
+  pub within : IsRunIn index run
+  pub lo : run.lo ≡ behind index (run_begin index run)
+  pub hi : run.hi ≡ behind index (run_end index run)
+
+-- Each run of a plan that covers an index is one.
+abbrev pub PlannedRuns : Type 0
+PlannedRuns = (index : Index) (runs : List Run) (i : ℕ) (run : Run) → Cover index 0 runs (length index.bodies) → slice_get runs i ≡ Some run → IsLaidIn index run
 
 -- A run's rows come first among those of the frames from its first one on.
 abbrev pub RunThen : Type 0

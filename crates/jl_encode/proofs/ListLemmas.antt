@@ -9,6 +9,7 @@ use Rattle.jl_base.specs.Sinks.{Held, Adds}
 use Rattle.jl_base.proofs.SinkLemmas.{Adds-nil, Adds-append}
 use Rattle.jl_rows.specs.Written.{StreamOptions, Row}
 use Rattle.jl_rows.specs.History.{History}
+use Rattle.jl_rows.specs.Decoder.{decode}
 use Rattle.jl_rows.proofs.Binding.{bound}
 use Rattle.jl_spell.specs.Frames.{body_of, frames_of}
 use Rattle.jl_encoding.specs.declared.form.Form.{Form}
@@ -19,10 +20,11 @@ use Rattle.jl_encoding.specs.Wide.{is_too_wide, where_answered, wide_from}
 use Rattle.jl_encoding.specs.Encoding.{options_of, first_row, each_item, rows_of, file_of, encoding, wide}
 use Rattle.jl_encoding.specs.Handed.{ended, last_frame, handed_of, handed}
 use Rattle.jl_encoding.proofs.HandedLaws.{front_is_handed}
+use Rattle.jl_encoding.proofs.EncodingLaws.{encodings_decoded}
 use Rattle.jl_encode.specs.declared.stop.Stop.{Stop}
 use Rattle.jl_encode.specs.declared.stop.Stop.TheVariants as stop
 use Rattle.jl_encode.specs.Answers.{Progress, Stands, AddsItem, Finishes, GivesFront, Grows, Lacks, next_number}
-use Rattle.jl_encode.specs.Lists.{IsFar, GivesEnded, GivesSome, Encodes}
+use Rattle.jl_encode.specs.Lists.{IsFar, GivesEnded, GivesSome, IsFile, Encodes}
 
 -- the first item that is too wide stays the first one
 wide_stays : (o : StreamOptions) (H : History) (n m : ℕ) (is js : List Item) → wide_from o H n is ≡ Some m → wide_from o H n (is ++ js) ≡ Some m
@@ -120,11 +122,18 @@ module _ (form : Form) (per : ℕ) (e : Progress) (done : List Item) (first held
     far_stopped rest e' held' stop.NoMemory adds = nothing_more rest held' adds
 
   -- the last frame
-  last_front : (held' : Option Held) (bytes : List ℕ) → Lacks e done bytes → encoding form per done ≡ Ok (far.bytes ++ bytes)
-  last_front held' bytes lacks = encoding_by done ∙ lacks.whole ∙ ap (λ (xs : List ℕ). Ok (xs ++ bytes)) (same_before lacks.before lacks.was)
+  last_front : (bytes : List ℕ) → Lacks e done bytes → encoding form per done ≡ Ok (far.bytes ++ bytes)
+  last_front bytes lacks = encoding_by done ∙ lacks.whole ∙ ap (λ (xs : List ℕ). Ok (xs ++ bytes)) (same_before lacks.before lacks.was)
+
+  decoded : (file : List ℕ) → encoding form per done ≡ Ok file → IsFile form per done file
+  decoded file are =
+      let found = encodings_decoded e.form e.per done far.stands.fit far.stands.proper far.stands.narrow in
+      let a : ◌≡◌ {A = Result (List ℕ) Refusal} (Ok found.0) (Ok file) = sym found.1 ∙ sym (encoding_by done) ∙ are in
+      let same : found.0 ≡ file = cc in
+      record { is_file = are; decodes = λ strict. subst (λ (bytes : List ℕ). decode strict bytes ≡ record { items = done; fault = None }) same (found.2 strict) }
 
   pub far_finished : (held' : Option Held) (result : Result (Unit {0}) Stop) → Finishes e done held held' result → Encodes form per done first held' result
-  far_finished held' (Ok u) finishes = (far.bytes ++ finishes.0, last_front held' finishes.0 finishes.1, Adds-append first held held' far.bytes finishes.0 far.adds finishes.2)
+  far_finished held' (Ok u) finishes = (far.bytes ++ finishes.0, decoded (far.bytes ++ finishes.0) (last_front finishes.0 finishes.1), Adds-append first held held' far.bytes finishes.0 far.adds finishes.2)
   far_finished held' (Err stop.WriteFault) finishes =
       let bytes = finishes.0 in
       let front = finishes.2 in
@@ -133,7 +142,7 @@ module _ (form : Form) (per : ℕ) (e : Progress) (done : List Item) (first held
         rest = [];
         split = sym (append-nil done);
         file = far.bytes ++ bytes;
-        are = last_front held' bytes finishes.1;
+        are = last_front bytes finishes.1;
         front = record {
           given = far.bytes ++ front.given;
           rest = front.rest;
@@ -159,11 +168,12 @@ pub record AreAdded (e0 e : Progress) (all rest : List code.Item) (held held' : 
   pub form_is : e.form ≡ e0.form
   pub per_is : e.per ≡ e0.per
   pub steady : faults' ≡ faults
+  pub alive : e.spent ≡ false
   pub proper : AllByRecursion IsProperItem (items_of all) → AllByRecursion IsProperItem (items_of rest)
   pub far : Stands e0 [] → AllByRecursion IsProperItem (items_of all) → IsFar e0.form e0.per e done held held'
 
-pub added_none : (e : Progress) (all : List code.Item) (held : Option Held) (faults : ℕ) → AllByRecursion (Fits (options_of e.form)) (items_of all) → next_number e + length all ≤ 2 ^ 62 + 1 → AreAdded e e all all held held faults faults
-added_none e all held faults fit few = record {
+pub added_none : (e : Progress) (all : List code.Item) (held : Option Held) (faults : ℕ) → AllByRecursion (Fits (options_of e.form)) (items_of all) → next_number e + length all ≤ 2 ^ 62 + 1 → e.spent ≡ false → AreAdded e e all all held held faults faults
+added_none e all held faults fit few alive = record {
   done = [];
   split = refl;
   fit = fit;
@@ -171,15 +181,16 @@ added_none e all held faults fit few = record {
   form_is = refl;
   per_is = refl;
   steady = refl;
+  alive = alive;
   proper = λ h. h;
   far = λ stands _. far_none e held stands;
 }
 
 module _ (e0 e : Progress) (all : List code.Item) (i : code.Item) (rest : List code.Item) (first held : Option Held) (f0 f : ℕ) (added : AreAdded e0 e all (i ∷ rest) first held f0 f) where
   -- one item more was added
-  pub added_next : (e' : Progress) (held' : Option Held) (f' : ℕ) (u : Unit {0}) → e'.form ≡ e.form → e'.per ≡ e.per → next_number e' ≡ next_number e + 1 → f' ≡ f
+  pub added_next : (e' : Progress) (held' : Option Held) (f' : ℕ) (u : Unit {0}) → e'.form ≡ e.form → e'.per ≡ e.per → next_number e' ≡ next_number e + 1 → f' ≡ f → e'.spent ≡ false
       → ((is : List Item) → Stands e is → IsProperItem (item_of i) → AddsItem e e' is (item_of i) held held' (Ok u)) → AreAdded e0 e' all rest first held' f0 f'
-  added_next e' held' f' u form_is per_is number steady adds = record {
+  added_next e' held' f' u form_is per_is number steady alive adds = record {
     done = added.done ++ item_of i ∷ [];
     split = added.split ∙ sym (append_assoc added.done (item_of i ∷ []) (items_of rest));
     fit = subst (λ (form : Form). AllByRecursion (Fits (options_of form)) (items_of rest)) (sym form_is) added.fit.1;
@@ -187,6 +198,7 @@ module _ (e0 e : Progress) (all : List code.Item) (i : code.Item) (rest : List c
     form_is = form_is ∙ added.form_is;
     per_is = per_is ∙ added.per_is;
     steady = steady ∙ added.steady;
+    alive = alive;
     proper = λ h. (added.proper h).1;
     far = λ stands h. let so = added.far stands h in far_next e0.form e0.per e added.done first held so (item_of i) e' held' u form_is per_is (adds added.done so.stands (added.proper h).0);
   }

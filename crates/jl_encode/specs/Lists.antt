@@ -1,7 +1,8 @@
 -- What a sink is given of a list of items.
-use Rattle.std.specs.Prelude.{◌≡◌, ℕ, ◌+◌, List, ◌++◌, length, Option, Some, None, Result, Ok, Err}
+use Rattle.std.specs.Prelude.{◌≡◌, ℕ, ◌+◌, Bool, List, ◌++◌, length, Option, Some, None, Result, Ok, Err}
 use Rattle.jl_base.specs.Terms.{Item}
 use Rattle.jl_base.specs.Sinks.{Held, Adds}
+use Rattle.jl_rows.specs.Decoder.{decode}
 use Rattle.jl_encoding.specs.declared.form.Form.{Form}
 use Rattle.jl_encoding.specs.Encoding.{encoding, wide}
 use Rattle.jl_encoding.specs.Handed.{handed}
@@ -36,10 +37,15 @@ pub record GivesSome (form : Form) (per : ℕ) (is : List Item) (held held' : Op
   pub are : encoding form per done ≡ Ok file
   pub front : GivesFront file held held'
 
+-- the file of these items, which is decoded to them without a fault, under the strict profile or not
+pub record IsFile (form : Form) (per : ℕ) (is : List Item) (file : List ℕ) : Type 0 where
+  pub is_file : encoding form per is ≡ Ok file
+  pub decodes : (strict : Bool) → decode strict file ≡ record { items = is; fault = None }
+
 -- What a sink was given of the file of these items: all of it at Ok. An item is too wide only where the definition says so,
 -- and then the frames that the items before it ended were given.
 abbrev pub Encodes : Form → ℕ → List Item → Option Held → Option Held → Result (Unit {0}) Stop → Type 0
-Encodes form per is held held' (Ok _) = (file : List ℕ) × (encoding form per is ≡ Ok file) × Adds held held' file
+Encodes form per is held held' (Ok _) = (file : List ℕ) × IsFile form per is file × Adds held held' file
 Encodes form per is held held' (Err (stop.TooWide n)) = (wide form is ≡ Some n) × ((given : GivesEnded form per is held held') × (n ≡ length given.done + 1))
 Encodes form per is held held' (Err stop.WriteFault) = GivesSome form per is held held'
 Encodes form per is held held' (Err stop.NoMemory) = GivesEnded form per is held held'

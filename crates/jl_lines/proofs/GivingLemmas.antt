@@ -106,7 +106,6 @@ module _ (bytes : List ℕ) (d d' : Decoding) (R : Reading Placed Fault) where
   pub passes_gave : (k k' : Outlet) → Gives d.page.lines k k' (Ok tt) → d'.page.lines ≡ [] → d'.state ≡ d.state → d'.counts ≡ d.counts → d'.writing ≡ d.writing
       → Passes (outcome bytes d R) k k' (outcome bytes d' R)
   passes_gave k k' gave empty state counts writing =
-
       let said = run_on (options_seen bytes d.state.options) (state_seen bytes d.state) R in
       let same : outcome bytes d' R ≡ outcome_of (written d.writing) [] d.counts said =
       ap (λ (l : List ℕ). outcome_of (written d'.writing) l d'.counts (run_on (options_seen bytes d'.state.options) (state_seen bytes d'.state) R)) empty

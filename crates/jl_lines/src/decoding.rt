@@ -1,6 +1,7 @@
 //! The decoding of rows, one after another: the state after them, what was written of their items, and how many items
 //! they state.
 ghost use Rattle.std.specs.Prelude.{◌≡◌, [], ◌+◌, ◌<◌, ◌≤◌, ◌^◌, IfOk, OnOk, length};
+ghost use Rattle.jl_base.specs.Limits.{most_bytes};
 ghost use Rattle.jl_rows.specs.Heads.{ArePassed};
 ghost use Rattle.jl_state.specs.States.{opening};
 ghost use Rattle.jl_rows.specs.Seen.{options_seen, row_seen, HasRow};
@@ -78,7 +79,7 @@ impl Decoding {
     pub(crate) fn row(&mut self, alloc: Global, bytes: &[u8], row: &Row) -> Result<(), Stop>
         requires kept { Keeps bytes.now self.old }
         requires inside { HasRow bytes.now row.now }
-        requires short { length bytes.now ≤ 2 ^ 30 }
+        requires short { length bytes.now ≤ most_bytes }
         requires few { counted self.old < 2 ^ 63 }
         ensures exact { TakesRow bytes.now (step (options_seen bytes.now self.old.state.options) (row_seen bytes.now row.now) (state_seen bytes.now self.old.state)) self.old self.new result }
         ensures kept { OnOk result (Keeps bytes.now self.new) }

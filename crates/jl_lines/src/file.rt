@@ -1,5 +1,6 @@
 //! The decoding of a whole file, from its index and its head to its last wave.
-ghost use Rattle.std.specs.Prelude.{◌≡◌, ◌<◌, ◌≤◌, ◌^◌, [], IfOk, length};
+ghost use Rattle.std.specs.Prelude.{◌≡◌, ◌<◌, ◌≤◌, [], IfOk, length};
+ghost use Rattle.jl_base.specs.Limits.{most_bytes};
 ghost use Rattle.jl_frames.specs.Index.{IsIndex};
 ghost use Rattle.jl_rows.specs.Decoder.{decode, decoded_on};
 ghost use Rattle.jl_rows.specs.Files as files;
@@ -36,7 +37,7 @@ pub(crate) fn decode_file<K: Sink>(
     writing: Writing,
     out: &mut K,
 ) -> Result<Tally, Broken>
-    requires short { length space.now ≤ 2 ^ 30 }
+    requires short { length space.now ≤ most_bytes }
     requires some { 0 < per }
     ensures delivers { Delivers (all_of (written writing) (decode strict space.now)) (outlet K.held K.faults out.old) (outlet K.held K.faults out.new) (λ tally. at_end (counts_of tally)) result }
     ensures frames { IfOk result (λ tally. tally.frames ≡ length (files.frames space.now).items) }
@@ -62,7 +63,7 @@ fn decode_bytes<K: Sink>(
     writing: Writing,
     out: &mut K,
 ) -> Result<Counts, Broken>
-    requires short { length bytes.now ≤ 2 ^ 30 }
+    requires short { length bytes.now ≤ most_bytes }
     requires indexed { IsIndex bytes.now frames.now }
     requires some { 0 < per }
     ensures { Delivers (all_of (written writing) (decode strict bytes.now)) (outlet K.held K.faults out.old) (outlet K.held K.faults out.new) (λ counts. at_end counts) result }
@@ -89,7 +90,7 @@ fn decode_under<K: Sink>(
     writing: Writing,
     out: &mut K,
 ) -> Result<Counts, Broken>
-    requires short { length bytes.now ≤ 2 ^ 30 }
+    requires short { length bytes.now ≤ most_bytes }
     requires indexed { IsIndex bytes.now frames.now }
     requires passed { ArePassed bytes.now options.now }
     requires some { 0 < per }

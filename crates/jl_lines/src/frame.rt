@@ -1,5 +1,6 @@
 //! The decoding of a frame's rows.
 ghost use Rattle.std.specs.Prelude.{◌≡◌, ◌+◌, ◌-◌, ◌<◌, ◌≤◌, ◌^◌, IfOk, IfSome, OnOk, length};
+ghost use Rattle.jl_base.specs.Limits.{most_bytes};
 ghost use Rattle.jl_base.specs.Results.{Reading};
 ghost use Rattle.jl_base.specs.declared.place.Fault as faults;
 ghost use Rattle.jl_rows.specs.Files as files;
@@ -48,7 +49,7 @@ impl Decoding {
         row: &mut Row,
     ) -> Result<Option<usize>, Refused>
         requires kept { Keeps bytes.now self.old }
-        requires short { length bytes.now ≤ 2 ^ 30 }
+        requires short { length bytes.now ≤ most_bytes }
         requires start { at ≤ frame.end }
         requires inside { frame.end ≤ length bytes.now }
         requires rows { before < 2 ^ 32 - 1 }
@@ -83,7 +84,7 @@ impl Decoding {
         before: u32,
     ) -> Result<Option<(usize, u32)>, Refused>
         requires kept { Keeps bytes.now self.old }
-        requires short { length bytes.now ≤ 2 ^ 30 }
+        requires short { length bytes.now ≤ most_bytes }
         requires start { at ≤ frame.end }
         requires inside { frame.end ≤ length bytes.now }
         requires counted { before ≤ at }

@@ -11,6 +11,7 @@ ghost use Rattle.jl_state.specs.Lawful.{state_seen, maybe_value, value_or_defaul
 use crate::known::push_known;
 use crate::line::{Line, Repeats};
 use crate::placing::{END_ROOM, TERM_ROOM, place_known};
+use jl_rows::{GRAPHS, QUADS};
 use jl_state::{Known, State};
 use jl_text::{AGAIN, place_again, place_byte, place_pair};
 use std::alloc::AllocError;
@@ -197,10 +198,10 @@ fn put_graph_around(
     ensures room { IfOk result (λ end. end + 2 ≤ vec_len page.new) }
     ensures longer { vec_len page.old ≤ vec_len page.new }
 {
-    if state.options.physical == 2 {
+    if state.options.physical == QUADS {
         return put_graph(page, aside, at, bytes, &state.graph);
     }
-    if state.options.physical == 3 {
+    if state.options.physical == GRAPHS {
         return put_graph(page, aside, at, bytes, &state.open_graph);
     }
     Ok(at)

@@ -1,6 +1,7 @@
 //! The decoding of a stretch of frames, whatever follows it: the seam between the decoding of rows, which knows neither
 //! sinks nor where a file ends, and those who share out frames and give away what was written.
 ghost use Rattle.std.specs.Prelude.{◌≡◌, ℕ, ◌+◌, ◌<◌, ◌≤◌, ◌^◌, IfOk, IfSome, OnOk, length};
+ghost use Rattle.jl_base.specs.Limits.{most_bytes};
 ghost use Rattle.jl_base.specs.Results.{Reading};
 ghost use Rattle.jl_base.specs.declared.place.Fault as faults;
 ghost use Rattle.jl_frames.specs.Index.{AreLaid};
@@ -48,7 +49,7 @@ impl Decoding {
         end: u64,
     ) -> Result<Option<Stand>, Refused>
         requires kept { Keeps bytes.now self.old }
-        requires short { length bytes.now ≤ 2 ^ 30 }
+        requires short { length bytes.now ≤ most_bytes }
         requires laid { (last : ℕ) × AreLaid frames.now.lo frames.now.bodies last × (last ≤ length bytes.now) }
         requires end { end ≤ length frames.now.bodies }
         requires stand { IsStand frames.now from end }

@@ -1,6 +1,7 @@
 //! What stands around the decoding of a stretch of frames: frames are decoded by waves of runs, and what is written of a
 //! wave is given to a sink before the next one begins.
 ghost use Rattle.std.specs.Prelude.{◌≡◌, ℕ, [], ◌+◌, ◌<◌, ◌≤◌, ◌^◌, OnOk, length};
+ghost use Rattle.jl_base.specs.Limits.{most_bytes};
 ghost use Rattle.jl_base.specs.Results.{Reading};
 ghost use Rattle.jl_base.specs.declared.place.Fault as faults;
 ghost use Rattle.jl_frames.specs.Index.{AreLaid, IsIndex, behind};
@@ -55,7 +56,7 @@ impl Decoding {
         out: &mut K,
     ) -> Result<(), Broken>
         requires kept { Keeps bytes.now self.old }
-        requires short { length bytes.now ≤ 2 ^ 30 }
+        requires short { length bytes.now ≤ most_bytes }
         requires laid { (last : ℕ) × AreLaid frames.now.lo frames.now.bodies last × (last ≤ length bytes.now) }
         requires begin { begin ≤ end }
         requires end { end ≤ length frames.now.bodies }
@@ -92,7 +93,7 @@ impl Decoding {
         out: &mut K,
     ) -> Result<(), Broken>
         requires kept { Keeps bytes.now self.old }
-        requires short { length bytes.now ≤ 2 ^ 30 }
+        requires short { length bytes.now ≤ most_bytes }
         requires laid { (last : ℕ) × AreLaid frames.now.lo frames.now.bodies last × (last ≤ length bytes.now) }
         requires cover { Cover frames.now 0 plan.now (length frames.now.bodies) }
         requires empty { self.old.page.lines ≡ [] }
@@ -121,7 +122,7 @@ impl Decoding {
         out: &mut K,
     ) -> Result<Counts, Broken>
         requires kept { Keeps bytes.now self.old }
-        requires short { length bytes.now ≤ 2 ^ 30 }
+        requires short { length bytes.now ≤ most_bytes }
         requires indexed { IsIndex bytes.now frames.now }
         requires cover { Cover frames.now 0 plan.now (length frames.now.bodies) }
         requires empty { self.old.page.lines ≡ [] }

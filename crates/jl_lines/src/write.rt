@@ -1,5 +1,6 @@
 //! The lines of a whole file.
-ghost use Rattle.std.specs.Prelude.{◌<◌, ◌≤◌, ◌^◌, length};
+ghost use Rattle.std.specs.Prelude.{◌<◌, ◌≤◌, length};
+ghost use Rattle.jl_base.specs.Limits.{most_bytes};
 ghost use Rattle.jl_rows.specs.Decoder.{decode};
 ghost use Rattle.jl_lines.specs.Writes.{WritesLines};
 
@@ -32,7 +33,7 @@ pub fn write_lines<K: Sink>(
     strict: bool,
     out: &mut K,
 ) -> Ended
-    requires short { length space.now ≤ 2 ^ 30 }
+    requires short { length space.now ≤ most_bytes }
     requires some { 0 < per }
     ensures { WritesLines (decode strict space.now) (K.held out.old) (K.held out.new) (K.faults out.old) (K.faults out.new) result }
 {

@@ -33,7 +33,7 @@ passes_none said rest k e = record {
 }
 
 module _ (a b : Outcome) (k k' : Outlet) (first : Passes a k k' b) where
-  -- a front, and then another
+  -- a prefix, and then another
   pub passes_then : (c : Outcome) (k'' : Outlet) → Passes b k' k'' c → Passes a k k'' c
   passes_then c k'' second = record {
     given = first.given ++ second.given;
@@ -53,7 +53,7 @@ module _ (a b : Outcome) (k k' : Outlet) (first : Passes a k k' b) where
   earlier left k'' broken.WriteFault cause = let same = first.steady in (omega (arith, same, cause.0), omega (arith, same, cause.1))
   earlier left k'' broken.NoMemory cause = cause ∙ first.steady
 
-  -- a front, and then no more than a front
+  -- a prefix, and then another one and no more
   pub passes_breaks : (k'' : Outlet) (why : Broken) → Breaks b k' k'' why → Breaks a k k'' why
   passes_breaks k'' why second = record {
     given = first.given ++ second.given;
@@ -63,7 +63,7 @@ module _ (a b : Outcome) (k k' : Outlet) (first : Passes a k k' b) where
     cause = earlier second.left k'' why second.cause;
   }
 
--- a front, and then what a call delivers
+-- a prefix, and then what a call delivers
 pub passes_delivers : {A : Type 0} (a b : Outcome) (k k' k'' : Outlet) (rest : A → Outcome) (result : Result A Broken) → Passes a k k' b → Delivers b k' k'' rest result → Delivers a k k'' rest result
 passes_delivers a b k k' k'' rest (Ok x) first second = passes_then a b k k' first (rest x) k'' second
 passes_delivers a b k k' k'' rest (Err why) first second = passes_breaks a b k k' first k'' why second

@@ -1,9 +1,11 @@
 pub mod Appending
 pub mod Graphs
 pub mod GoingLemmas
+pub mod Laid
 pub mod Stretching
 pub mod GivingLemmas
 pub mod Waving
 pub mod Endings
 pub mod Pages
 pub mod Repeating
+pub mod RepeatingSteps

@@ -3,14 +3,14 @@ use Rattle.std.proofs.Common.{◌≡◌, ◌==◌, ◌&&◌, ℕ, Bool, true, fa
 use Rattle.jl_base.specs.Results.{◌>>=◌, refuse_if, some_or}
 use Rattle.jl_base.specs.Terms.{Value, Item}
 use Rattle.jl_base.specs.declared.kind.Kind.{Kind}
-use Rattle.jl_base.specs.declared.kind.Kind.TheVariants.{OptionsDiffer, WrongRow, BadEntry, NoTerm, NoGraph, GraphOpen, EarlyNamespace}
+use Rattle.jl_base.specs.declared.kind.Kind.TheVariants.{OptionsDiffer, BadEntry, NoTerm, NoGraph, GraphOpen, EarlyNamespace}
 use Rattle.jl_rows.specs.declared.row.Table.{Table}
 use Rattle.jl_rows.specs.Written.{Ids, Term, StreamOptions, Row}
-use Rattle.jl_rows.specs.Values.{Position, Slots}
-use Rattle.jl_rows.specs.Decoder.{guarded, is_same, is_wrong_row, read_under, row_guarded, stated}
+use Rattle.jl_rows.specs.Values.{Slots}
+use Rattle.jl_rows.specs.Decoder.{is_same, stated}
 use Rattle.jl_rows.proofs.Binding.{bound}
 use Rattle.jl_state.specs.States.{State, entry_of, table_of, slots_in}
-use Rattle.jl_state.specs.Steps.{placed, graph_for, looked, text_at, ids_after, Stepped, entry_step, entered, id_after, step, row_step, triple_step, quad_step}
+use Rattle.jl_state.specs.Steps.{placed, graph_for, looked, text_at, ids_after, Stepped, entry_step, entered, id_after, row_step, triple_step, quad_step}
 use Rattle.jl_lines.specs.Kept.{RepeatsSubject, RepeatsPredicate, RepeatsObject}
 
 -- the last terms are the same
@@ -135,7 +135,7 @@ quad_placed s p ob g t t' items e =
       stated = some_item (Item.Quad a.value.0 b.value.0 c.value.0 d.value.0) items (ap items_in (sym d.then));
     }
 
-row_subject : (o : StreamOptions) (r : Row) (t t' : State) (items : List Item) → RepeatsSubject r → row_step o r t ≡ Ok (t', items) → t'.subject ≡ t.subject
+pub row_subject : (o : StreamOptions) (r : Row) (t t' : State) (items : List Item) → RepeatsSubject r → row_step o r t ≡ Ok (t', items) → t'.subject ≡ t.subject
 row_subject o (Row.Options p) t t' items k e = (options_left o p t t' items e).subject
 row_subject o (Row.Entry u id text) t t' items k e = (entry_row_left o u id text t t' items e).subject
 row_subject o Row.GraphEnd t t' items k e = (end_left o t t' items e).subject
@@ -144,7 +144,7 @@ row_subject o (Row.Namespace name i) t t' items k e = (namespace_left o name i t
 row_subject o (Row.Triple s p ob) t t' items k e = (triple_placed o s p ob t t' items e).subject k
 row_subject o (Row.Quad s p ob g) t t' items k e = (quad_placed s p ob g t t' items e).subject k
 
-row_predicate : (o : StreamOptions) (r : Row) (t t' : State) (items : List Item) → RepeatsPredicate r → row_step o r t ≡ Ok (t', items) → t'.predicate ≡ t.predicate
+pub row_predicate : (o : StreamOptions) (r : Row) (t t' : State) (items : List Item) → RepeatsPredicate r → row_step o r t ≡ Ok (t', items) → t'.predicate ≡ t.predicate
 row_predicate o (Row.Options p) t t' items k e = (options_left o p t t' items e).predicate
 row_predicate o (Row.Entry u id text) t t' items k e = (entry_row_left o u id text t t' items e).predicate
 row_predicate o Row.GraphEnd t t' items k e = (end_left o t t' items e).predicate
@@ -153,7 +153,7 @@ row_predicate o (Row.Namespace name i) t t' items k e = (namespace_left o name i
 row_predicate o (Row.Triple s p ob) t t' items k e = (triple_placed o s p ob t t' items e).predicate k
 row_predicate o (Row.Quad s p ob g) t t' items k e = (quad_placed s p ob g t t' items e).predicate k
 
-row_object : (o : StreamOptions) (r : Row) (t t' : State) (items : List Item) → RepeatsObject r → row_step o r t ≡ Ok (t', items) → t'.object ≡ t.object
+pub row_object : (o : StreamOptions) (r : Row) (t t' : State) (items : List Item) → RepeatsObject r → row_step o r t ≡ Ok (t', items) → t'.object ≡ t.object
 row_object o (Row.Options p) t t' items k e = (options_left o p t t' items e).object
 row_object o (Row.Entry u id text) t t' items k e = (entry_row_left o u id text t t' items e).object
 row_object o Row.GraphEnd t t' items k e = (end_left o t t' items e).object
@@ -162,7 +162,7 @@ row_object o (Row.Namespace name i) t t' items k e = (namespace_left o name i t 
 row_object o (Row.Triple s p ob) t t' items k e = (triple_placed o s p ob t t' items e).object k
 row_object o (Row.Quad s p ob g) t t' items k e = (quad_placed s p ob g t t' items e).object k
 
-row_nothing : (o : StreamOptions) (r : Row) (t t' : State) → row_step o r t ≡ Ok (t', []) → Left t t'
+pub row_nothing : (o : StreamOptions) (r : Row) (t t' : State) → row_step o r t ≡ Ok (t', []) → Left t t'
 row_nothing o (Row.Options p) t t' e = options_left o p t t' [] e
 row_nothing o (Row.Entry u id text) t t' e = entry_row_left o u id text t t' [] e
 row_nothing o Row.GraphEnd t t' e = end_left o t t' [] e
@@ -170,55 +170,3 @@ row_nothing o (Row.GraphStart g) t t' e = start_left o g t t' [] e
 row_nothing o (Row.Namespace name i) t t' e = namespace_left o name i t t' [] e
 row_nothing o (Row.Triple s p ob) t t' e = absurd ((triple_placed o s p ob t t' [] e).stated refl)
 row_nothing o (Row.Quad s p ob g) t t' e = absurd ((quad_placed s p ob g t t' [] e).stated refl)
-
--- a row that repeats a term repeats it however it is read
-module _ (o : StreamOptions) where
-  subject_guarded : (r : Row) → RepeatsSubject r → RepeatsSubject (row_guarded o r)
-  subject_guarded (Row.Options p) k = tt
-  subject_guarded (Row.Entry u id text) k = tt
-  subject_guarded Row.GraphEnd k = tt
-  subject_guarded (Row.GraphStart g) k = tt
-  subject_guarded (Row.Namespace name i) k = tt
-  subject_guarded (Row.Triple s p ob) k = ap (guarded o Position.Subject) k
-  subject_guarded (Row.Quad s p ob g) k = ap (guarded o Position.Subject) k
-
-  predicate_guarded : (r : Row) → RepeatsPredicate r → RepeatsPredicate (row_guarded o r)
-  predicate_guarded (Row.Options p) k = tt
-  predicate_guarded (Row.Entry u id text) k = tt
-  predicate_guarded Row.GraphEnd k = tt
-  predicate_guarded (Row.GraphStart g) k = tt
-  predicate_guarded (Row.Namespace name i) k = tt
-  predicate_guarded (Row.Triple s p ob) k = ap (guarded o Position.Predicate) k
-  predicate_guarded (Row.Quad s p ob g) k = ap (guarded o Position.Predicate) k
-
-  object_guarded : (r : Row) → RepeatsObject r → RepeatsObject (row_guarded o r)
-  object_guarded (Row.Options p) k = tt
-  object_guarded (Row.Entry u id text) k = tt
-  object_guarded Row.GraphEnd k = tt
-  object_guarded (Row.GraphStart g) k = tt
-  object_guarded (Row.Namespace name i) k = tt
-  object_guarded (Row.Triple s p ob) k = ap (guarded o Position.Object) k
-  object_guarded (Row.Quad s p ob g) k = ap (guarded o Position.Object) k
-
--- what holds of a row and of the row with each term at its position holds of the row as it is read
-read_so : (P : Row → Type 0) (b : Bool) (x y : Row) → P x → P y → P (cond b x y)
-read_so P true x y p q = p
-read_so P false x y p q = q
-
--- the same of a step
-module _ (o : StreamOptions) (r : Row) (t t' : State) where
-  taken : (items : List Item) → step o r t ≡ Ok (t', items) → row_step o (read_under o r) t ≡ Ok (t', items)
-  taken items e = let b = bound {B = State × List Item} (refuse_if (is_wrong_row o r) WrongRow) (λ _. row_step o (read_under o r) t) (t', items) e in b.then
-
-  pub step_subject : (items : List Item) → RepeatsSubject r → step o r t ≡ Ok (t', items) → t'.subject ≡ t.subject
-  step_subject items k e = row_subject o (read_under o r) t t' items (read_so RepeatsSubject o.strict (row_guarded o r) r (subject_guarded o r k) k) (taken items e)
-
-  pub step_predicate : (items : List Item) → RepeatsPredicate r → step o r t ≡ Ok (t', items) → t'.predicate ≡ t.predicate
-  step_predicate items k e = row_predicate o (read_under o r) t t' items (read_so RepeatsPredicate o.strict (row_guarded o r) r (predicate_guarded o r k) k) (taken items e)
-
-  pub step_object : (items : List Item) → RepeatsObject r → step o r t ≡ Ok (t', items) → t'.object ≡ t.object
-  step_object items k e = row_object o (read_under o r) t t' items (read_so RepeatsObject o.strict (row_guarded o r) r (object_guarded o r k) k) (taken items e)
-
-  -- a row that states nothing leaves all three
-  pub step_nothing : step o r t ≡ Ok (t', []) → Left t t'
-  step_nothing e = row_nothing o (read_under o r) t t' (taken [] e)

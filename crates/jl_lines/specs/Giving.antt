@@ -16,7 +16,7 @@ pub record Outlet : Type 0 where
 abbrev pub outlet : {K : Type 0} → (K → Option Held) → (K → ℕ) → K → Outlet
 outlet held faults sink = record { held = held sink; faults = faults sink }
 
--- Of what a decoding comes to, a front was given and this is left, and the sink didn't fail.
+-- Of what a decoding comes to, a prefix was given and this is left, and the sink didn't fail.
 pub record Passes (said : Outcome) (before after : Outlet) (rest : Outcome) : Type 0 where
   pub given : List ℕ
   pub adds : Adds before.held after.held given
@@ -35,7 +35,7 @@ IsBrokenBy fault left before after (broken.Malformed found) = (fault ≡ Some fo
 IsBrokenBy fault left before after broken.WriteFault = HasRisen before after
 IsBrokenBy fault left before after broken.NoMemory = after.faults ≡ before.faults
 
--- All lines before a fault were given; or the sink failed, or memory wasn't found, with a front of the lines given.
+-- All lines before a fault were given; or the sink failed, or memory wasn't found, with a prefix of the lines given.
 pub record Breaks (said : Outcome) (before after : Outlet) (why : Broken) : Type 0 where
   pub given : List ℕ
   pub left : List ℕ
@@ -43,7 +43,7 @@ pub record Breaks (said : Outcome) (before after : Outlet) (why : Broken) : Type
   pub lines : said.lines ≡ given ++ left
   pub cause : IsBrokenBy said.fault left before after why
 
--- a front was given, or no more than a front was
+-- a prefix was given, and this is left; or a prefix was given, and no more
 abbrev pub Delivers : {A : Type 0} → Outcome → Outlet → Outlet → (A → Outcome) → Result A Broken → Type 0
 Delivers said before after rest (Ok x) = Passes said before after (rest x)
 Delivers said before after rest (Err why) = Breaks said before after why
@@ -52,7 +52,7 @@ Delivers said before after rest (Err why) = Breaks said before after why
 abbrev pub fails : Broken → Result (Unit {0}) Broken
 fails why = Err why
 
--- The lines were given; or the sink failed after a front of them.
+-- The lines were given; or the sink failed after a prefix of them.
 abbrev pub Gives : List ℕ → Outlet → Outlet → Result (Unit {0}) Broken → Type 0
 Gives lines before after (Ok _) = Adds before.held after.held lines × (after.faults ≡ before.faults)
 Gives lines before after (Err why) = (why ≡ broken.WriteFault) × HasRisen before after × AddsFront before.held after.held lines (fails why)

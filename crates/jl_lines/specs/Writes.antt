@@ -23,7 +23,7 @@ IsSteady faults faults' (ended.Malformed fault) = faults' ≡ faults
 IsSteady faults faults' ended.WriteFault = Unit {0}
 IsSteady faults faults' ended.NoMemory = faults' ≡ faults
 
--- The sink was given a front of the lines of what a file states: all of them at its end or at its first fault, less only
+-- The sink was given a prefix of the lines of what a file states: all of them at its end or at its first fault, less only
 -- where the sink failed or memory wasn't found.
 pub record WritesLines (said : Reading Item Fault) (held held' : Option Held) (faults faults' : ℕ) (ended : Ended) : Type 0 where
   pub given : List ℕ

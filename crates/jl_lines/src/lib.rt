@@ -1,9 +1,10 @@
 //! The decoding of a file by runs and waves: the N-Quads lines of its items, written straight from its bytes while its
 //! rows are read, or how many items there are.
 //!
-//! It promises that what it gives a sink is a front of the decoder's lines: all of them where nothing failed, those
-//! before the first fault where there is one; and that it counts the decoder's items. It stands on jl_frames, jl_state,
-//! jl_rows and jl_text.
+//! It promises that what it gives a sink is a prefix of the decoder's lines: all of them where nothing failed, those
+//! before the first fault where there is one; and that it counts the decoder's items. One function decodes a stretch of
+//! frames, whatever follows them; waves, the sink and the end of the file stand around it, once for lines and counts. It
+//! stands on jl_frames, jl_state, jl_rows and jl_text.
 #![tactic(auto)]
 
 mod count;

@@ -17,7 +17,7 @@ pub enum Ended {
     Whole,
     /// The file's first fault; the lines before it were given.
     Malformed(Fault),
-    /// The sink failed. It was given a front of the lines.
+    /// The sink failed. It was given a prefix of the lines.
     WriteFault,
     /// Memory wasn't found. The sink was given a front of the lines.
     NoMemory,

@@ -7,7 +7,8 @@ use Rattle.jl_lines.specs.Giving.{outlet}
 use Rattle.jl_lines.specs.Stretches.{between, left_from, stand_at}
 use Rattle.jl_lines.proofs.GivingLemmas.{passes_none, passes_on, passes_then, passes_breaks, passes_delivers, passes_gave, breaks_gave, breaks_halted, breaks_halting, delivers_gave}
 use Rattle.jl_lines.proofs.Pages.{kept_anew}
-use Rattle.jl_lines.proofs.Stretching.{begins_stand, laid_last, left_begins}
+use Rattle.jl_lines.proofs.Laid.{begins_stand, laid_last}
+use Rattle.jl_lines.proofs.Stretching.{left_begins}
 use Rattle.jl_lines.proofs.decoding.Decoding.deliver.Goals as goal
 
 pub by_page-init : goal.by_page-init

@@ -7,7 +7,8 @@ use Rattle.jl_lines.specs.Going.{Outcome, at_end, outcome}
 use Rattle.jl_lines.specs.Giving.{outlet}
 use Rattle.jl_lines.proofs.Endings.{outcome_none}
 use Rattle.jl_lines.proofs.GivingLemmas.{breaks_fault, passes_breaks, passes_on}
-use Rattle.jl_lines.proofs.Stretching.{laid_file, whole_between}
+use Rattle.jl_lines.proofs.Laid.{laid_file}
+use Rattle.jl_lines.proofs.Stretching.{whole_between}
 use Rattle.jl_lines.proofs.decoding.Decoding.file.Goals as goal
 
 pub waves-requires-clause-laid : goal.waves-requires-clause-laid

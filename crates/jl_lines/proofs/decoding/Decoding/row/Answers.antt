@@ -7,7 +7,7 @@ use Rattle.jl_state.specs.Lawful.{state_seen, statement_of}
 use Rattle.jl_lines.specs.Writings.{written}
 use Rattle.jl_lines.proofs.Appending.{one_item, namespace_counted, statement_counted}
 use Rattle.jl_lines.specs.Pages.{IsStill}
-use Rattle.jl_lines.proofs.Repeating.{step_subject, step_predicate, step_object, step_nothing}
+use Rattle.jl_lines.proofs.RepeatingSteps.{step_subject, step_predicate, step_object, step_nothing}
 use Rattle.jl_lines.proofs.decoding.Decoding.row.Goals as goal
 
 pub returns-in_ok-statement-in-Statement-clause-exact :

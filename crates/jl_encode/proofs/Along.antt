@@ -1,5 +1,6 @@
 -- The plain steps go along with the definition's: the same answers, the same entries, and tables that stand for them.
 use Rattle.std.proofs.Common.{◌≡◌, ℕ, ◌^◌, ◌<◌, ◌≤◌, List, [], ◌∷◌, ◌++◌, length, reverse, Option, Some, None, Result, Ok, Err, refl, ap, sym, ◌∙◌, arith, append_assoc, append-nil}
+use Rattle.jl_encoding.specs.Limits.{most_item_bytes}
 use Rattle.std.proofs.lemmas.List.{reverse-append}
 use Rattle.std.proofs.lemmas.Grind.{flat_map-append}
 use Rattle.jl_base.specs.Results.{◌>>=◌}
@@ -33,7 +34,7 @@ pub record GoesWith {A : Type 0} (o : StreamOptions) (H : History) (st : State) 
 abbrev pub Along : {A : Type 0} → StreamOptions → History → State → Option (Step A) → Result (A × State) Refusal → Type 0
 Along o H st (Some s) (Ok r) = GoesWith o H st s r
 Along o H st (Some s) (Err e) = ⊥
-Along o H st None (Ok r) = 2 ^ 26 < length (entry_text r.1)
+Along o H st None (Ok r) = most_item_bytes < length (entry_text r.1)
 Along o H st None (Err e) = Unit {0}
 
 -- entries are never taken back
@@ -66,7 +67,7 @@ module _ (o : StreamOptions) (H : History) where
   behind_along st st1 bytes None (Ok r) e w = w
   behind_along st st1 bytes None (Err k) e w = w
 
-  grown_past : {B : Type 0} (st st1 : State) (r : Result (B × State) Refusal) → 2 ^ 26 < length (entry_text st1) → Grows st1 r → Along {A = B} o H st None r
+  grown_past : {B : Type 0} (st st1 : State) (r : Result (B × State) Refusal) → most_item_bytes < length (entry_text st1) → Grows st1 r → Along {A = B} o H st None r
   grown_past st st1 (Ok r) long more = omega (arith, long, more)
   grown_past st st1 (Err e) long more = tt
 

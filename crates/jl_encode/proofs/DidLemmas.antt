@@ -1,5 +1,6 @@
 -- Steps one behind another, as code makes them.
 use Rattle.std.proofs.Common.{◌≡◌, ℕ, ◌+◌, ◌^◌, ◌<◌, true, List, [], ◌∷◌, ◌++◌, length, Option, Some, None, nat_lt, refl, ap, sym, ◌∙◌, subst, arith, append_assoc, append-nil, length-append}
+use Rattle.jl_encoding.specs.Limits.{most_item_bytes}
 use Rattle.std.proofs.lemmas.Bool.{lt-ltb, or_left}
 use Rattle.jl_rows.specs.Written.{Row}
 use Rattle.jl_spell.specs.Frames.{body_of}
@@ -44,14 +45,14 @@ puts_row (Some s) out mid out' r D did e =
     (e ∙ ap (λ (xs : List ℕ). xs ++ body_of (r ∷ [])) did.1 ∙ append_assoc out s.bytes (body_of (r ∷ [])) ∙ ap (λ (xs : List ℕ). out ++ (s.bytes ++ xs)) (sym row), did.2)
 
 -- a row that is too long by itself
-pub long_row : (step : Option (Step Row)) (out mid : List ℕ) (r : Row) (D : Desk) → Did step out r mid D → 2 ^ 26 < length (body_of (r ∷ [])) → is_refused step ≡ true
+pub long_row : (step : Option (Step Row)) (out mid : List ℕ) (r : Row) (D : Desk) → Did step out r mid D → most_item_bytes < length (body_of (r ∷ [])) → is_refused step ≡ true
 long_row None out mid r D did long = refl
 long_row (Some s) out mid r D did long =
     let answer : s.answer ≡ r = did.0 in
     let row : body_of (s.answer ∷ []) ≡ body_of (r ∷ []) = ap (λ (q : Row). body_of (q ∷ [])) answer in
     let sum : length (item_bytes s) ≡ length s.bytes + length (body_of (r ∷ [])) = length-append s.bytes (body_of (s.answer ∷ [])) ∙ ap (λ (xs : List ℕ). length s.bytes + length xs) row in
-    let more : nat_lt (2 ^ 26) (length (item_bytes s)) ≡ true = lt-ltb (2 ^ 26) (length (item_bytes s)) (omega (arith, sum, long)) in
-    or_left (nat_lt (2 ^ 26) (length (item_bytes s))) (is_overfull s.desk) more
+    let more : nat_lt most_item_bytes (length (item_bytes s)) ≡ true = lt-ltb most_item_bytes (length (item_bytes s)) (omega (arith, sum, long)) in
+    or_left (nat_lt most_item_bytes (length (item_bytes s))) (is_overfull s.desk) more
 
 pub none_refused : (step : Option (Step Row)) → step ≡ None → is_refused step ≡ true
 none_refused step e = rw e refl

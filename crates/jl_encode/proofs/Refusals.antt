@@ -1,5 +1,6 @@
 -- An item is refused exactly where it is too wide.
 use Rattle.std.proofs.Common.{◌≡◌, ℕ, ◌^◌, ◌||◌, ◌&&◌, Bool, true, false, List, [], ◌∷◌, ◌++◌, length, reverse, Option, Some, None, is_none, Result, Ok, Err, nat_lt, refl, ap, ◌∙◌, subst, arith, length-append}
+use Rattle.jl_encoding.specs.Limits.{most_item_bytes}
 use Rattle.std.proofs.lemmas.Bool.{ltb-false, lt-ltb}
 use Rattle.jl_base.specs.Terms.{Item}
 use Rattle.jl_rows.specs.declared.row.Table.{Table}
@@ -51,7 +52,7 @@ none_is_wide o H D L i agrees none = by_row (put_row o H i) refl (subst (λ (x :
     by_row (Ok r) was w =
         let are : item_rows o H i ≡ Ok (rows_of r) = rows_are o H i ∙ ap rows_in was in
         let bytes = ap length (body_behind r.0 r.1.entries) in
-        let long : nat_lt (2 ^ 26) (length (body_of (reverse (rows_of r)))) ≡ true = lt-ltb (2 ^ 26) (length (body_of (reverse (rows_of r)))) (omega (arith, w, bytes, length-append (entry_text r.1) (body_of (r.0 ∷ [])))) in
+        let long : nat_lt most_item_bytes (length (body_of (reverse (rows_of r)))) ≡ true = lt-ltb most_item_bytes (length (body_of (reverse (rows_of r)))) (omega (arith, w, bytes, length-append (entry_text r.1) (body_of (r.0 ∷ [])))) in
         by_long (is_crowded o H i Table.Name) (is_crowded o H i Table.Prefix) (is_crowded o H i Table.Datatype) (is_long (item_rows o H i)) (ap is_long are ∙ long)
     by_row (Err e) was w = crowded o H i e (rows_are o H i ∙ ap rows_in was) (is_crowded o H i Table.Name) (is_crowded o H i Table.Prefix) (is_crowded o H i Table.Datatype) (is_long (item_rows o H i)) refl refl refl
 
@@ -73,7 +74,7 @@ some_is_wide o H D L i s agrees put = by_row (put_row o H i) refl (subst (λ (x 
     by_row : (r : Result (Row × State) Refusal) → put_row o H i ≡ r → Along o H (start H) (Some s) r → is_too_wide o H i ≡ is_refused (Some s)
     by_row (Ok r) was w =
         let are : item_rows o H i ≡ Ok (rows_of r) = rows_are o H i ∙ ap rows_in was in
-        let long : is_long (item_rows o H i) ≡ nat_lt (2 ^ 26) (length (item_bytes s)) = ap is_long are ∙ ap (λ (bs : List ℕ). nat_lt (2 ^ 26) (length bs)) (bytes_are o H D L agrees s r w) in
+        let long : is_long (item_rows o H i) ≡ nat_lt most_item_bytes (length (item_bytes s)) = ap is_long are ∙ ap (λ (bs : List ℕ). nat_lt most_item_bytes (length bs)) (bytes_are o H D L agrees s r w) in
         let counts : Crowds o H i r.1 s.desk.hidden = crowds o H i r.1 s.desk.hidden (item_exactly o H D L agrees i s r put was) in
         let S = w.stands.tables Table.Prefix in
         let next = next_is o Table.Prefix [] s.desk.item s.desk.prefixes (r.1.entries ++ H) r.1.claims S in

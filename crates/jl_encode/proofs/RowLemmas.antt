@@ -1,5 +1,6 @@
 -- Rows that are written part by part.
 use Rattle.std.proofs.Common.{◌≡◌, ℕ, ◌^◌, ◌<◌, ◌≤◌, Bool, true, false, List, [], ◌∷◌, ◌++◌, length, Option, Some, None, Err, nat_lt, refl, ap, sym, ◌∙◌, ltb-false, append_assoc, append-nil, ap₂, unwrap_or}
+use Rattle.jl_encoding.specs.Limits.{most_item_bytes}
 use Rattle.jl_rows.specs.Written.{Ids, Row}
 use Rattle.jl_spell.specs.Fields.{Bytes, front_of, field_of}
 use Rattle.jl_spell.specs.Messages.{message_of, unless_empty}
@@ -23,26 +24,26 @@ three_appended field size old first second third fourth a b d front is x y z =
 pub row_told : (number : ℕ) (m : List ℕ) (message row whole : Option ℕ) → message ≡ limited (length m) → row ≡ in_field number message → whole ≡ in_field 1 row → whole ≡ limited (length (row_bytes number m))
 row_told number m message row whole is inner outer = outer ∙ ap (in_field 1) (inner ∙ ap (in_field number) is ∙ field_bytes number m) ∙ field_bytes 1 (field_of number (Bytes m))
 
-pub row_long : (number : ℕ) (m : List ℕ) (message row whole : Option ℕ) → message ≡ limited (length m) → row ≡ in_field number message → whole ≡ in_field 1 row → whole ≡ None → 2 ^ 26 < length (row_bytes number m)
+pub row_long : (number : ℕ) (m : List ℕ) (message row whole : Option ℕ) → message ≡ limited (length m) → row ≡ in_field number message → whole ≡ in_field 1 row → whole ≡ None → most_item_bytes < length (row_bytes number m)
 row_long number m message row whole is inner outer none = untold (length (row_bytes number m)) (sym (row_told number m message row whole is inner outer) ∙ none)
 
-told_short : (n k : ℕ) → limited n ≡ Some k → n ≤ 2 ^ 26
-told_short n k some = by_test (nat_lt (2 ^ 26) n) refl
+told_short : (n k : ℕ) → limited n ≡ Some k → n ≤ most_item_bytes
+told_short n k some = by_test (nat_lt most_item_bytes n) refl
   where
-    by_test : (b : Bool) → nat_lt (2 ^ 26) n ≡ b → n ≤ 2 ^ 26
+    by_test : (b : Bool) → nat_lt most_item_bytes n ≡ b → n ≤ most_item_bytes
     by_test true e = let none = rw e at some in absurd (cc)
-    by_test false e = ltb-false (2 ^ 26) n e
+    by_test false e = ltb-false most_item_bytes n e
 
-pub row_short : (number : ℕ) (m : List ℕ) (message row whole : Option ℕ) (size : ℕ) → message ≡ limited (length m) → row ≡ in_field number message → whole ≡ in_field 1 row → whole ≡ Some size → length (field_of number (Bytes m)) ≤ 2 ^ 26
+pub row_short : (number : ℕ) (m : List ℕ) (message row whole : Option ℕ) (size : ℕ) → message ≡ limited (length m) → row ≡ in_field number message → whole ≡ in_field 1 row → whole ≡ Some size → length (field_of number (Bytes m)) ≤ most_item_bytes
 row_short number m message row whole size is inner outer some =
     held_short 1 (field_of number (Bytes m)) (told_short (length (row_bytes number m)) size (sym (row_told number m message row whole is inner outer) ∙ some))
 
 pub fronts_appended : (number : ℕ) (m : List ℕ) (message row whole : Option ℕ) (size a b : ℕ) (old first second : List ℕ) → message ≡ limited (length m) → row ≡ in_field number message → whole ≡ in_field 1 row → whole ≡ Some size
     → a ≡ unwrap_or row 0 → b ≡ unwrap_or message 0 → first ≡ old ++ front_of 1 a → second ≡ first ++ front_of number b
-    → (second ≡ old ++ fronts number m) × (length m ≤ 2 ^ 26)
+    → (second ≡ old ++ fronts number m) × (length m ≤ most_item_bytes)
 fronts_appended number m message row whole size a b old first second is inner outer some x y front back =
     let short = row_short number m message row whole size is inner outer some in
-    let within : length m ≤ 2 ^ 26 = held_short number m short in
+    let within : length m ≤ most_item_bytes = held_short number m short in
     let one : a ≡ length (field_of number (Bytes m)) = x ∙ ap (λ (l : Option ℕ). unwrap_or l 0) (inner ∙ ap (in_field number) is ∙ field_bytes number m ∙ told (length (field_of number (Bytes m))) short) in
     let two : b ≡ length m = y ∙ ap (λ (l : Option ℕ). unwrap_or l 0) (is ∙ told (length m) within) in
     (rw (back, front, one, two) (append_assoc old (front_of 1 (length (field_of number (Bytes m)))) (front_of number (length m))), within)

@@ -1,5 +1,6 @@
 -- A text is put in step with the definition.
 use Rattle.std.proofs.Common.{◌≡◌, ℕ, ◌+◌, ◌^◌, ◌<◌, ◌≤◌, Bool, true, false, not, List, [], ◌∷◌, ◌++◌, length, find, Option, Some, None, Ok, nat_lt, if◌then◌else◌, refl, ap, sym, ◌∙◌, arith, append-nil, length-append}
+use Rattle.jl_encoding.specs.Limits.{most_item_bytes}
 use Rattle.std.proofs.lemmas.Bool.{ltb-true}
 use Rattle.jl_base.specs.Results.{◌>>=◌, some_or}
 use Rattle.jl_rows.specs.declared.row.Table.{Table}
@@ -152,10 +153,10 @@ text_along o H t x st D stands = by_place (place x T) refl
         let A = S.agrees in
         body_behind (Row.Entry t (entry_written t (k + 1) K) x) st.entries ∙ ap (λ (id : ℕ). entry_text st ++ body_of (Row.Entry t id x ∷ [])) (sym (entry_same t (k + 1) T K A.last))
 
-    new : (k : ℕ) → next_place D.item T ≡ Some k → (b : Bool) → nat_lt (2 ^ 26) (length x) ≡ b
+    new : (k : ℕ) → next_place D.item T ≡ Some k → (b : Bool) → nat_lt most_item_bytes (length x) ≡ b
         → Along {A = ℕ} o H st (on_desk t D (if b then None else Some (record { id = k + 1; bytes = entry_bytes t x k T; texts = used D.item k (entered x k T) }))) (Ok (k + 1, with_claim t (k + 1) x (with_entry H t (k + 1) x st)))
     new k e true h =
-        let long : 2 ^ 26 < length x = ltb-true (2 ^ 26) (length x) h in
+        let long : most_item_bytes < length x = ltb-true most_item_bytes (length x) h in
         let all = ap length (grown k) in
         omega (arith, long, all, length-append (entry_text st) (entry_bytes t x k T), entry_longer t (unless_given (T.last + 1) (k + 1)) x)
     new k e false h =
@@ -168,7 +169,7 @@ text_along o H t x st D stands = by_place (place x T) refl
 
     by_next : (next : Option ℕ) → next_place D.item T ≡ next → Along {A = ℕ} o H st (on_desk t D (in_new D.item t x T next)) (some_or (shifted next) Full >>= λ n. Ok (n, with_claim t n x (with_entry H t n x st)))
     by_next None e = tt
-    by_next (Some k) e = new k e (nat_lt (2 ^ 26) (length x)) refl
+    by_next (Some k) e = new k e (nat_lt most_item_bytes (length x)) refl
 
     by_place : (at : Option ℕ) → place x T ≡ at → Along o H st (on_desk t D (in_place D.item t x T at)) (used_or_new o H t x st (holder o t x K))
     by_place (Some k) e = let h : holder o t x K ≡ Some (k + 1) = held_is ∙ ap shifted e in rw h (found k e)

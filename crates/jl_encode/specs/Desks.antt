@@ -1,6 +1,7 @@
 -- What the code keeps of the lookup tables and ids, as plain values, and what a text does to it. No history stands here: what
 -- these values are to the rows written before is said in Standing.
 use Rattle.std.specs.Prelude.{ℕ, ◌+◌, ◌-◌, ◌^◌, Bool, false, ◌==◌, ◌&&◌, not, List, [], ◌∷◌, ◌++◌, length, find, replicate, slice_get, slice_set, Option, Some, None, is_none, nat_lt, if◌then◌else◌}
+use Rattle.jl_encoding.specs.Limits.{most_item_bytes}
 use Rattle.std.specs.Str.{bytes_eq}
 use Rattle.jl_rows.specs.declared.row.Table.{Table}
 use Rattle.jl_rows.specs.Written.{Row}
@@ -59,7 +60,7 @@ entry_bytes t x k T = body_of (Row.Entry t (unless_given (T.last + 1) (k + 1)) x
 -- None where the item uses all slots already, or the text alone has more bytes than an item may have.
 abbrev pub in_new : ℕ → Table → List ℕ → Texts → Option ℕ → Option InTable
 in_new item t x T None = None
-in_new item t x T (Some k) = if nat_lt (2 ^ 26) (length x) then None else Some (record { id = k + 1; bytes = entry_bytes t x k T; texts = used item k (entered x k T) })
+in_new item t x T (Some k) = if nat_lt most_item_bytes (length x) then None else Some (record { id = k + 1; bytes = entry_bytes t x k T; texts = used item k (entered x k T) })
 
 abbrev pub in_place : ℕ → Table → List ℕ → Texts → Option ℕ → Option InTable
 in_place item t x T (Some k) = Some (record { id = k + 1; bytes = []; texts = used item k T })

@@ -1,5 +1,6 @@
 -- How terms and items are put behind a desk, in reading order: the bytes of their entries, and what their own row states.
 use Rattle.std.specs.Prelude.{◌≡◌, ℕ, ◌+◌, ◌^◌, ◌<◌, Bool, true, false, ◌==◌, ◌&&◌, ◌||◌, not, List, [], ◌∷◌, ◌++◌, length, Option, Some, None, Result, Ok, Err, nat_lt, if◌then◌else◌}
+use Rattle.jl_encoding.specs.Limits.{most_item_bytes}
 use Rattle.jl_base.specs.Terms.{Tail, Value, Item}
 use Rattle.jl_rows.specs.declared.row.Table.{Table}
 use Rattle.jl_rows.specs.Written.{Ids, Ending, Term, Row}
@@ -91,7 +92,7 @@ item_bytes s = s.bytes ++ body_of (s.answer ∷ [])
 -- An item can't be put: no slot is free for a text, or it takes more than 2^26 bytes, or it asks for one prefix too many.
 abbrev pub is_refused : Option (Step Row) → Bool
 is_refused None = true
-is_refused (Some s) = nat_lt (2 ^ 26) (length (item_bytes s)) || is_overfull s.desk
+is_refused (Some s) = nat_lt most_item_bytes (length (item_bytes s)) || is_overfull s.desk
 
 -- What a step left in code: the answer, the buffer behind the entries' bytes, and the desk.
 abbrev pub Did : {A : Type 0} → Option (Step A) → List ℕ → A → List ℕ → Desk → Type 0
@@ -114,7 +115,7 @@ Puts step says out out' D (Err NoMemory) = Unit {0}
 -- A row is written, or it has more than 2^26 bytes.
 abbrev pub PutsRow : Row → List ℕ → List ℕ → Result (Unit {0}) Refusal → Type 0
 PutsRow r out out' (Ok _) = out' ≡ out ++ body_of (r ∷ [])
-PutsRow r out out' (Err TooWide) = 2 ^ 26 < length (body_of (r ∷ []))
+PutsRow r out out' (Err TooWide) = most_item_bytes < length (body_of (r ∷ []))
 PutsRow r out out' (Err NoMemory) = Unit {0}
 
 -- an item's rows behind the buffer

@@ -1,5 +1,6 @@
 -- The fields of a term as bytes, apart from the message that they stand in, and lengths up to a limit.
 use Rattle.std.specs.Prelude.{◌≡◌, ℕ, ◌+◌, ◌^◌, ◌<◌, ◌≤◌, List, [], ◌++◌, length, max, Option, Some, None, Result, Ok, Err, nat_lt, if◌then◌else◌}
+use Rattle.jl_encoding.specs.Limits.{most_item_bytes}
 use Rattle.jl_base.specs.Terms.{Value}
 use Rattle.jl_rows.specs.Written.{Ending, Term}
 use Rattle.jl_spell.specs.Fields.{Number, Bytes, front_of, field_of}
@@ -9,7 +10,7 @@ use Rattle.jl_encode.specs.declared.refusal.Refusal.TheVariants.{TooWide, NoMemo
 
 -- a length, unless it is above the limit
 abbrev pub limited : ℕ → Option ℕ
-limited n = if nat_lt (2 ^ 26) n then None else Some n
+limited n = if nat_lt most_item_bytes n then None else Some n
 
 -- the length of two stretches
 abbrev pub joint : Option ℕ → Option ℕ → Option ℕ
@@ -70,6 +71,6 @@ fronts number message = front_of 1 (length (field_of number (Bytes message))) ++
 
 -- What the writer of these answers, of a message of which it knows the length.
 abbrev pub AddsFronts : {A : Type 0} → Result A Refusal → ℕ → List ℕ → List ℕ → List ℕ → Type 0
-AddsFronts (Ok x) number old new message = (new ≡ old ++ fronts number message) × (length message ≤ 2 ^ 26)
-AddsFronts (Err TooWide) number old new message = 2 ^ 26 < length (row_bytes number message)
+AddsFronts (Ok x) number old new message = (new ≡ old ++ fronts number message) × (length message ≤ most_item_bytes)
+AddsFronts (Err TooWide) number old new message = most_item_bytes < length (row_bytes number message)
 AddsFronts (Err NoMemory) number old new message = Unit {0}

@@ -31,6 +31,13 @@ mod tests;
 /// A frame is ended once its body has so many bytes.
 const FRAME: usize = 1 << 24;
 
+/// How many entries the lookup tables have.
+const MOST_NAMES: u64 = 4000;
+
+const MOST_PREFIXES: u64 = 150;
+
+const MOST_DATATYPES: u64 = 32;
+
 /// Writes items to a sink as a Jelly file, one after another, in frames.
 ///
 /// It holds the lookup tables, of up to 4000 names, 150 prefixes and 32 datatypes, the terms of the last statement, and the
@@ -73,7 +80,7 @@ impl Encoder {
         Ok(Encoder {
             alloc,
             form,
-            desk: Desk::new(alloc, 4000, 150, 32)?,
+            desk: Desk::new(alloc, MOST_NAMES, MOST_PREFIXES, MOST_DATATYPES)?,
             lasts: Lasts::new(),
             body,
             count: Count::new(per),

@@ -1,5 +1,6 @@
 //! Rows from an item's terms, straight behind a frame's other rows: first how many bytes they take, and then these.
 ghost use Rattle.std.specs.Prelude.{◌≡◌, ◌<◌, ◌≤◌, ◌^◌, [], ◌∷◌, ◌++◌, length, Some, OnErr, OnOk};
+ghost use Rattle.jl_encoding.specs.Limits.{most_item_bytes};
 ghost use Rattle.jl_base.specs.Items.{value_of, tail_of};
 ghost use Rattle.jl_rows.specs.Written.{Row};
 ghost use Rattle.jl_spell.specs.Fields.{Bytes, field_of, front_of};
@@ -145,7 +146,7 @@ fn push_literal(
     tail: &Tail,
     said: &Stated,
 ) -> Result<(), AllocError>
-    requires { length (literal_of lex.now (ending_stated (tail_of tail.now) said.now)) ≤ 2 ^ 26 }
+    requires { length (literal_of lex.now (ending_stated (tail_of tail.now) said.now)) ≤ most_item_bytes }
     ensures { OnOk result (out.new.items ≡ out.old.items ++ field_of field (Bytes (literal_of lex.now (ending_stated (tail_of tail.now) said.now)))) }
 {
     match (tail, said) {
@@ -159,7 +160,7 @@ fn push_literal(
 #[cycle(push_term)]
 fn push_term(out: &mut Vec<u8>, base: u32, term: &Term, said: &Stated) -> Result<(), AllocError>
     requires base { base ≤ 8 }
-    requires short { length (term_bytes base (stated (value_of term.now) said.now)) ≤ 2 ^ 26 }
+    requires short { length (term_bytes base (stated (value_of term.now) said.now)) ≤ most_item_bytes }
     ensures { OnOk result (out.new.items ≡ out.old.items ++ term_bytes base (stated (value_of term.now) said.now)) }
 {
     match (term, said) {
@@ -186,7 +187,7 @@ fn push_three(
     three: &Three,
     held: &StatedThree,
 ) -> Result<(), AllocError>
-    requires short { length (three_bytes (stated (value_of three.now.s) held.now.s) (stated (value_of three.now.p) held.now.p) (stated (value_of three.now.o) held.now.o)) ≤ 2 ^ 26 }
+    requires short { length (three_bytes (stated (value_of three.now.s) held.now.s) (stated (value_of three.now.p) held.now.p) (stated (value_of three.now.o) held.now.o)) ≤ most_item_bytes }
     ensures { OnOk result (out.new.items ≡ out.old.items ++ field_of field (Bytes (three_bytes (stated (value_of three.now.s) held.now.s) (stated (value_of three.now.p) held.now.p) (stated (value_of three.now.o) held.now.o)))) }
 {
     // It is within the limit.
@@ -256,7 +257,7 @@ fn push_triple(
     o: &Term,
     stands: &StatedThree,
 ) -> Result<(), AllocError>
-    requires short { length (three_bytes (stated (value_of s.now) stands.now.s) (stated (value_of p.now) stands.now.p) (stated (value_of o.now) stands.now.o)) ≤ 2 ^ 26 }
+    requires short { length (three_bytes (stated (value_of s.now) stands.now.s) (stated (value_of p.now) stands.now.p) (stated (value_of o.now) stands.now.o)) ≤ most_item_bytes }
     ensures { OnOk result (out.new.items ≡ out.old.items ++ (three_bytes (stated (value_of s.now) stands.now.s) (stated (value_of p.now) stands.now.p) (stated (value_of o.now) stands.now.o))) }
 {
     push_term(out, 0, s, &stands.s)?;
@@ -286,7 +287,7 @@ fn graph_size(term: &Term, said: &Stated) -> Option<usize>
 // Appends the fields of a quad's graph.
 #[inline]
 fn push_graph(out: &mut Vec<u8>, term: &Term, said: &Stated) -> Result<(), AllocError>
-    requires short { length (graph_bytes (stated (value_of term.now) said.now)) ≤ 2 ^ 26 }
+    requires short { length (graph_bytes (stated (value_of term.now) said.now)) ≤ most_item_bytes }
     ensures { OnOk result (out.new.items ≡ out.old.items ++ graph_bytes (stated (value_of term.now) said.now)) }
 {
     match (term, said) {

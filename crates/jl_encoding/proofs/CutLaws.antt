@@ -1,5 +1,6 @@
 -- Frames: they have all rows in their order, none is too long, and they are read back at their places.
 use Rattle.std.proofs.Common.{◌≡◌, ℕ, ◌+◌, ◌<◌, ◌≤◌, ◌^◌, Bool, true, false, not, List, [], ◌∷◌, ◌++◌, length, map, None, nat_lt, nat_eq, if◌then◌else◌, refl, ap, ◌∙◌, arith, append_assoc, length-append}
+use Rattle.jl_encoding.specs.Limits.{most_item_bytes}
 use Rattle.std.specs.List.{AllByRecursion}
 use Rattle.std.proofs.lemmas.Bool.{or_parts, not-false, ltb-true, ne_eqb}
 use Rattle.std.proofs.lemmas.List.{map-append}
@@ -62,7 +63,7 @@ pub record IsFrame (rs : List Row) : Type 0 where
 
 -- an item's rows take no more than 2^26 bytes in their frame
 abbrev pub IsNarrow : List Row → Type 0
-IsNarrow rs = length (body_of rs) ≤ 2 ^ 26
+IsNarrow rs = length (body_of rs) ≤ most_item_bytes
 
 -- rows of items that are narrow
 pub record IsGood (rs : List Row) : Type 0 where
@@ -73,7 +74,7 @@ grown : (under_way rs : List Row) → AreRows under_way → length (body_of unde
 grown under_way rs are small good =
     let sum : length (body_of (under_way ++ rs)) ≡ length (body_of under_way) + length (body_of rs) =
     ap length (flat_map-append (λ (r : Row). field_of 1 (Bytes (row_of r))) under_way rs) ∙ length-append (body_of under_way) (body_of rs) in
-    let narrow : length (body_of rs) ≤ 2 ^ 26 = good.narrow in
+    let narrow : length (body_of rs) ≤ most_item_bytes = good.narrow in
     record { rows = rows_append under_way rs are good.rows; short = omega (arith, sum, narrow, small) }
 
 cut_frames : (per count : ℕ) (under_way : List Row) (rss : List (List Row)) → AreRows under_way → length (body_of under_way) < 2 ^ 24 → AllByRecursion IsGood rss → AllByRecursion IsFrame (cut per count under_way rss)

@@ -1,5 +1,6 @@
 -- The file of proper items is decoded to these items.
 use Rattle.std.proofs.Common.{◌≡◌, ℕ, Bool, true, false, reverse, nat_lt, Some, Result, if◌then◌else◌, ◌+◌, ◌++◌, ◌<◌, ◌≤◌, ◌^◌, List, [], ◌∷◌, length, map, None, Ok, refl, ap, sym, ◌∙◌, subst, arith}
+use Rattle.jl_encoding.specs.Limits.{most_item_bytes}
 use Rattle.std.specs.List.{AllByRecursion}
 use Rattle.std.proofs.lemmas.Bool.{ltb-false, or_parts}
 use Rattle.std.proofs.lemmas.Str.{is_utf8-from_IsUtf8, IsUtf8-nil}
@@ -119,12 +120,12 @@ narrow_items o H n (i ∷ is) none = by_test (is_too_wide o H i) refl none (λ r
         let fits : FitsTables o H i = tables_fit o H i a.0 b.0 c.0 in
         let found = item_fits o H i fits in
         let behind : wide_from o (found.rows ++ H) (n + 1) is ≡ None = sym (ap (λ (r : Result (List Row) Refusal). where_answered r (λ rs. wide_from o (rs ++ H) (n + 1) is)) found.are) ∙ none in
-        let short : nat_lt (2 ^ 26) (length (body_of (reverse found.rows))) ≡ false = sym (ap is_long found.are) ∙ c.1 in
+        let short : nat_lt most_item_bytes (length (body_of (reverse found.rows))) ≡ false = sym (ap is_long found.are) ∙ c.1 in
         let others = rest found.rows behind in
         record {
           rss = reverse found.rows ∷ others.rss;
           are = each_next o H i is found.rows others.rss found.are others.are;
-          narrow = (ltb-false (2 ^ 26) (length (body_of (reverse found.rows))) short, others.narrow);
+          narrow = (ltb-false most_item_bytes (length (body_of (reverse found.rows))) short, others.narrow);
         }
 
 -- the frames of items that are narrow

@@ -1,5 +1,6 @@
 -- Which items are too wide, by the state behind their terms.
 use Rattle.std.proofs.Common.{◌≡◌, ◌^◌, ◌&&◌, ◌||◌, Bool, true, false, not, List, ◌++◌, length, reverse, find, is_none, nat_lt, Result, Ok, Err, refl}
+use Rattle.jl_encoding.specs.Limits.{most_item_bytes}
 use Rattle.std.proofs.lemmas.Bool.{ltb-false, or_parts, true_from_ne_false}
 use Rattle.jl_base.specs.Terms.{Item}
 use Rattle.jl_rows.specs.declared.row.Table.{Table}
@@ -33,10 +34,10 @@ module _ (o : StreamOptions) (H : History) (i : Item) where
   -- One with rows is too wide where these take too many bytes, or where it uses all slots for prefixes and the empty prefix is
   -- hidden.
   pub width_is : (rs : List Row) (st : State) (hidden : Bool) → item_rows o H i ≡ Ok rs → Exacts o H st hidden (λ u. asked_by_item u i H)
-      → is_too_wide o H i ≡ ((hidden && is_none (find (λ n. not (is_claimed Table.Prefix n st.claims)) (in_turn (size_of o Table.Prefix) (entry_id Table.Prefix (st.entries ++ H))))) || nat_lt (2 ^ 26) (length (body_of (reverse rs))))
+      → is_too_wide o H i ≡ ((hidden && is_none (find (λ n. not (is_claimed Table.Prefix n st.claims)) (in_turn (size_of o Table.Prefix) (entry_id Table.Prefix (st.entries ++ H))))) || nat_lt most_item_bytes (length (body_of (reverse rs))))
   width_is rs st hidden are all =
       let c = crowds o H i st hidden all in
       by_crowds (is_crowded o H i Table.Name) (is_crowded o H i Table.Prefix) (is_crowded o H i Table.Datatype) (item_rows o H i) c.names c.prefixes c.datatypes are
     where
-      by_crowds : (a b c : Bool) (r : Result (List Row) Refusal) {f : Bool} → a ≡ false → b ≡ f → c ≡ false → r ≡ Ok rs → (a || (b || (c || is_long r))) ≡ (f || nat_lt (2 ^ 26) (length (body_of (reverse rs))))
+      by_crowds : (a b c : Bool) (r : Result (List Row) Refusal) {f : Bool} → a ≡ false → b ≡ f → c ≡ false → r ≡ Ok rs → (a || (b || (c || is_long r))) ≡ (f || nat_lt most_item_bytes (length (body_of (reverse rs))))
       by_crowds a b c r names prefixes datatypes are = rw (names, prefixes, datatypes, are) refl

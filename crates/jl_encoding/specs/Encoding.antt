@@ -1,5 +1,6 @@
 -- A file of items: its options row, the rows of each item, and how they stand in frames.
 use Rattle.std.specs.Prelude.{◌≡◌, ℕ, ◌+◌, ◌^◌, ◌<◌, ◌==◌, ◌||◌, Bool, true, false, List, [], ◌∷◌, ◌++◌, length, map, reverse, Option, None, Result, Ok, not, nat_lt, if◌then◌else◌}
+use Rattle.jl_encoding.specs.Limits.{most_names, most_prefixes, most_datatypes}
 use Rattle.std.specs.List.{AllByRecursion}
 use Rattle.jl_base.specs.Results.{◌>>=◌}
 use Rattle.jl_base.specs.Terms.{Item}
@@ -21,7 +22,7 @@ physical_of Form.Quads = 2
 
 -- both flags, tables of 4000, 150 and 32 entries, no logical type, version 2 and no stream name
 abbrev pub options_of : Form → StreamOptions
-options_of form = record { stream_name = []; physical = physical_of form; generalized = true; star = true; names = 4000; prefixes = 150; datatypes = 32; logical = 0; version = 2; strict = false }
+options_of form = record { stream_name = []; physical = physical_of form; generalized = true; star = true; names = most_names; prefixes = most_prefixes; datatypes = most_datatypes; logical = 0; version = 2; strict = false }
 
 abbrev pub first_row : Form → Row
 first_row form = Row.Options (options_of form)

@@ -8,3 +8,4 @@ pub mod Proper
 pub mod Encoding
 pub mod Handed
 pub mod WorkedRows
+pub mod Limits

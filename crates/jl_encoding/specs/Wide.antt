@@ -1,6 +1,7 @@
 -- Items that are too wide: their terms ask a table for more different texts than it has slots, or their rows take too
 -- many bytes.
 use Rattle.std.specs.Prelude.{ℕ, ◌+◌, ◌^◌, Bool, false, ◌||◌, List, [], ◌∷◌, ◌++◌, length, reverse, Option, Some, None, Result, Ok, Err, nat_lt, if◌then◌else◌}
+use Rattle.jl_encoding.specs.Limits.{most_item_bytes}
 use Rattle.std.specs.Str.{bytes_eq}
 use Rattle.jl_base.specs.Terms.{Tail, Value, Item}
 use Rattle.jl_rows.specs.declared.row.Table.{Table}
@@ -57,7 +58,7 @@ is_crowded o H i t = nat_lt (size_of o t) (different (asked_by_item t i H))
 
 -- rows take more than 2^26 bytes in their frame
 abbrev pub is_long : Result (List Row) Refusal → Bool
-is_long (Ok rs) = nat_lt (2 ^ 26) (length (body_of (reverse rs)))
+is_long (Ok rs) = nat_lt most_item_bytes (length (body_of (reverse rs)))
 is_long (Err e) = false
 
 abbrev pub is_too_wide : StreamOptions → History → Item → Bool

@@ -302,24 +302,12 @@ impl State {
                     Err(Stop::Fault(Kind::OptionsDiffer))
                 }
             }
-            Row::Triple(t) => {
-                if self.options.strict {
-                    return self.triple::<true>(alloc, bytes, t);
-                }
-                self.triple::<false>(alloc, bytes, t)
-            }
-            Row::Quad(t) => {
-                if self.options.strict {
-                    return self.quad::<true>(alloc, bytes, t);
-                }
-                self.quad::<false>(alloc, bytes, t)
-            }
-            Row::GraphStart(g) => {
-                if self.options.strict {
-                    return self.graph_start::<true>(alloc, bytes, *g);
-                }
-                self.graph_start::<false>(alloc, bytes, *g)
-            }
+            Row::Triple(t) if self.options.strict => self.triple::<true>(alloc, bytes, t),
+            Row::Triple(t) => self.triple::<false>(alloc, bytes, t),
+            Row::Quad(t) if self.options.strict => self.quad::<true>(alloc, bytes, t),
+            Row::Quad(t) => self.quad::<false>(alloc, bytes, t),
+            Row::GraphStart(g) if self.options.strict => self.graph_start::<true>(alloc, bytes, *g),
+            Row::GraphStart(g) => self.graph_start::<false>(alloc, bytes, *g),
             Row::GraphEnd => self.graph_end(bytes),
             Row::Namespace { name, iri } => self.namespace(bytes, *name, *iri),
             Row::Entry { table, id, text } => self.enter(bytes, *table, *id, *text),

@@ -19,6 +19,13 @@ position_of names.Graph = Position.Graph
 abbrev pub under : Bool → StreamOptions → Position → Term → Term
 under strict o x t = if strict then guarded o x t else t
 
+-- a row with each of its terms as it is checked at its position
+abbrev pub row_under : Bool → StreamOptions → Row → Row
+row_under strict o (Row.Triple s p ob) = Row.Triple (under strict o Position.Subject s) (under strict o Position.Predicate p) (under strict o Position.Object ob)
+row_under strict o (Row.Quad s p ob g) = Row.Quad (under strict o Position.Subject s) (under strict o Position.Predicate p) (under strict o Position.Object ob) (under strict o Position.Graph g)
+row_under strict o (Row.GraphStart g) = Row.GraphStart (under strict o Position.Graph g)
+row_under strict o r = r
+
 -- a term that may stand where it does: in a triple term each one is still to be checked at its own position
 abbrev pub inner_under : Bool → StreamOptions → Term → Term
 inner_under strict o (Term.Nested a b c) = Term.Nested (under strict o Position.Subject a) (under strict o Position.Predicate b) (under strict o Position.Object c)

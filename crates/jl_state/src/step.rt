@@ -5,12 +5,11 @@ ghost use Rattle.jl_base.specs.Limits.{most_bytes};
 ghost use Rattle.jl_base.specs.Spans.{IsInside, text_of};
 ghost use Rattle.jl_rows.specs.Decoder as decoder;
 ghost use Rattle.jl_rows.specs.Seen as rows;
-ghost use Rattle.jl_rows.specs.Values as values;
 ghost use Rattle.jl_rows.specs.Written as written;
 ghost use Rattle.jl_state.specs.Steps as steps;
 ghost use Rattle.jl_state.specs.Answers.{WantsFor};
 ghost use Rattle.jl_state.specs.Lawful.{state_seen, IsLawful, Steps, HasStated};
-ghost use Rattle.jl_state.specs.Positions.{has_triple_term, under};
+ghost use Rattle.jl_state.specs.Positions.{has_triple_term, row_under};
 
 use crate::position::Position;
 use crate::state::enter;
@@ -78,6 +77,8 @@ impl State {
         self.options.physical == GRAPHS && self.open_graph.is_none()
     }
 
+    // Where STRICT, each term is checked at its position. Rows with terms are compiled twice for it, so that other files
+    // have one test a row.
     fn triple<const STRICT: bool>(
         &mut self,
         alloc: Global,
@@ -89,10 +90,7 @@ impl State {
         requires form { decoder.is_quads (rows.options_seen bytes.now self.old.options) ≡ false }
         requires short { length bytes.now ≤ most_bytes }
         ensures exact { Steps bytes.now (rows.options_seen bytes.now self.old.options)
-            (steps.triple_step (rows.options_seen bytes.now self.old.options)
-            (under STRICT (rows.options_seen bytes.now self.old.options) values.Subject (rows.position_seen bytes.now t.now.s))
-            (under STRICT (rows.options_seen bytes.now self.old.options) values.Predicate (rows.position_seen bytes.now t.now.p))
-            (under STRICT (rows.options_seen bytes.now self.old.options) values.Object (rows.position_seen bytes.now t.now.o)) (state_seen bytes.now self.old)) self.new result }
+            (steps.row_step (rows.options_seen bytes.now self.old.options) (row_under STRICT (rows.options_seen bytes.now self.old.options) (rows.row_seen bytes.now (Row.Triple t.now))) (state_seen bytes.now self.old)) self.new result }
         ensures lawful { OnOk result (IsLawful bytes.now self.new) }
         ensures options { self.new.options ≡ self.old.options }
         ensures stated { IfOk result (HasStated bytes.now) }
@@ -141,11 +139,7 @@ impl State {
         requires form { decoder.is_quads (rows.options_seen bytes.now self.old.options) ≡ true }
         requires short { length bytes.now ≤ most_bytes }
         ensures exact { Steps bytes.now (rows.options_seen bytes.now self.old.options)
-            (steps.quad_step
-            (under STRICT (rows.options_seen bytes.now self.old.options) values.Subject (rows.position_seen bytes.now t.now.s))
-            (under STRICT (rows.options_seen bytes.now self.old.options) values.Predicate (rows.position_seen bytes.now t.now.p))
-            (under STRICT (rows.options_seen bytes.now self.old.options) values.Object (rows.position_seen bytes.now t.now.o))
-            (under STRICT (rows.options_seen bytes.now self.old.options) values.Graph (rows.position_seen bytes.now t.now.g)) (state_seen bytes.now self.old)) self.new result }
+            (steps.row_step (rows.options_seen bytes.now self.old.options) (row_under STRICT (rows.options_seen bytes.now self.old.options) (rows.row_seen bytes.now (Row.Quad t.now))) (state_seen bytes.now self.old)) self.new result }
         ensures lawful { OnOk result (IsLawful bytes.now self.new) }
         ensures options { self.new.options ≡ self.old.options }
         ensures stated { IfOk result (HasStated bytes.now) }
@@ -197,7 +191,7 @@ impl State {
         requires inside { rows.HasPosition bytes.now g }
         requires short { length bytes.now ≤ most_bytes }
         ensures exact { Steps bytes.now (rows.options_seen bytes.now self.old.options)
-            (steps.graph_start_step (under STRICT (rows.options_seen bytes.now self.old.options) values.Graph (rows.position_seen bytes.now g)) (state_seen bytes.now self.old)) self.new result }
+            (steps.row_step (rows.options_seen bytes.now self.old.options) (row_under STRICT (rows.options_seen bytes.now self.old.options) (rows.row_seen bytes.now (Row.GraphStart g))) (state_seen bytes.now self.old)) self.new result }
         ensures lawful { OnOk result (IsLawful bytes.now self.new) }
         ensures options { self.new.options ≡ self.old.options }
         ensures stated { IfOk result (HasStated bytes.now) }

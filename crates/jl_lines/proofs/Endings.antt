@@ -1,6 +1,5 @@
 -- From the outcome of a decoding to what a file states.
-use Rattle.std.proofs.Common.{◌≡◌, ℕ, ◌+◌, ◌≤◌, Bool, false, List, [], ◌++◌, Option, Some, None, Result, Ok, Err, refl, ap, sym, ◌∙◌, subst, append-nil, arith}
-use Rattle.std.specs.List.{flat_map}
+use Rattle.std.proofs.Common.{◌≡◌, ℕ, ◌+◌, Bool, false, List, [], Option, Some, None, refl, ap, sym, ◌∙◌, append-nil, arith}
 use Rattle.jl_base.specs.Results.{Reading}
 use Rattle.jl_base.specs.Terms.{Item}
 use Rattle.jl_base.specs.declared.place.Place.{Place}
@@ -20,14 +19,13 @@ use Rattle.jl_state.proofs.RunLaw.{runs_decode}
 use Rattle.jl_lines.specs.declared.decoding.Counts.{Counts}
 use Rattle.jl_lines.specs.declared.decoding.Decoding.{Decoding}
 use Rattle.jl_lines.specs.declared.file.Tally.{Tally}
-use Rattle.jl_lines.specs.declared.waves.Broken.{Broken}
 use Rattle.jl_lines.specs.declared.waves.Broken.TheVariants as broken
 use Rattle.jl_lines.specs.declared.write.Ended.TheVariants as ended
 use Rattle.jl_lines.specs.declared.writing.Writing.{Writing}
 use Rattle.jl_lines.specs.Counts.{counts_of, none_counted, with_counted, statements, namespaces}
 use Rattle.jl_lines.specs.Writings.{written}
 use Rattle.jl_lines.specs.Writes.{WritesLines}
-use Rattle.jl_lines.specs.Going.{Outcome, all_of, at_end, outcome, outcome_of}
+use Rattle.jl_lines.specs.Going.{all_of, at_end, outcome, outcome_of}
 use Rattle.jl_lines.specs.Giving.{Outlet, Passes, Breaks}
 use Rattle.jl_lines.proofs.GoingLemmas.{run_none}
 

@@ -1,9 +1,7 @@
 -- How what was given to a sink adds up.
-use Rattle.std.proofs.Common.{◌≡◌, ℕ, ◌+◌, ◌≤◌, List, [], ◌++◌, Option, Some, Result, Ok, Err, OnOk, subst, refl, ap, sym, ◌∙◌, append_assoc, append-nil, arith}
+use Rattle.std.proofs.Common.{◌≡◌, ℕ, List, [], ◌++◌, Some, Result, Ok, Err, OnOk, subst, refl, ap, sym, ◌∙◌, append_assoc, append-nil, arith}
 use Rattle.std.specs.List.{flat_map}
 use Rattle.jl_base.specs.Results.{Reading}
-use Rattle.jl_base.specs.Terms.{Item}
-use Rattle.jl_base.specs.Sinks.{Held, Adds, AddsFront}
 use Rattle.jl_base.specs.declared.place.Fault.{Fault}
 use Rattle.jl_base.proofs.SinkLemmas.{Adds-nil, Adds-append}
 use Rattle.jl_rows.specs.Files.{Placed}
@@ -19,7 +17,7 @@ use Rattle.jl_lines.specs.declared.writing.Writing.{Writing}
 use Rattle.jl_state.specs.declared.state.State.{State}
 use Rattle.jl_lines.specs.Writings.{written}
 use Rattle.jl_lines.specs.Going.{Outcome, Halts, outcome, outcome_of}
-use Rattle.jl_lines.specs.Giving.{Outlet, Passes, Breaks, Delivers, Gives, HasRisen, IsBrokenBy}
+use Rattle.jl_lines.specs.Giving.{Outlet, Passes, Breaks, Delivers, Gives, IsBrokenBy}
 
 -- nothing was given
 pub passes_none : (said rest : Outcome) (k : Outlet) → said ≡ rest → Passes said k k rest

@@ -1,6 +1,6 @@
 -- What a step leaves of the last terms: rows are read under what the file is held to.
 use Rattle.std.proofs.Common.{◌≡◌, Bool, true, false, cond, List, [], Ok, ap}
-use Rattle.jl_base.specs.Results.{◌>>=◌, refuse_if}
+use Rattle.jl_base.specs.Results.{refuse_if}
 use Rattle.jl_base.specs.Terms.{Item}
 use Rattle.jl_base.specs.declared.kind.Kind.TheVariants.{WrongRow}
 use Rattle.jl_rows.specs.Written.{StreamOptions, Row}

@@ -6,7 +6,6 @@ use Rattle.jl_base.specs.declared.place.Fault.{Fault}
 use Rattle.jl_lines.specs.Going.{Outcome}
 use Rattle.jl_lines.specs.declared.waves.Broken.{Broken}
 use Rattle.jl_lines.specs.declared.waves.Broken.TheVariants as broken
-use Rattle.jl_lines.specs.declared.decoding.Counts.{Counts}
 
 -- What a sink tells: what it was given, and how often it has failed.
 pub record Outlet : Type 0 where

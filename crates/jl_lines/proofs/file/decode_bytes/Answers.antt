@@ -1,7 +1,4 @@
-use Rattle.std.proofs.Common.{◌≡◌, None, refl, ap, sym, ◌∙◌}
-use Rattle.jl_base.specs.Results.{Reading}
-use Rattle.jl_base.specs.Terms.{Item}
-use Rattle.jl_base.specs.declared.place.Fault.{Fault}
+use Rattle.std.proofs.Common.{ap}
 use Rattle.jl_rows.specs.Decoder as decoder
 use Rattle.jl_rows.specs.Decoder.{decode}
 use Rattle.jl_rows.specs.Heads.{head_seen}

@@ -1,7 +1,5 @@
-use Rattle.std.proofs.Common.{sym}
 use Rattle.jl_rows.specs.Files.{all_rows}
 use Rattle.jl_lines.proofs.Endings.{opening_comes}
-use Rattle.jl_lines.proofs.GivingLemmas.{breaks_memory}
 use Rattle.jl_lines.proofs.file.decode_under.Goals as goal
 
 pub returns : goal.returns

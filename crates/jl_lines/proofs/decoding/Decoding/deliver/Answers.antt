@@ -1,6 +1,5 @@
-use Rattle.std.proofs.Common.{◌≡◌, ◌+◌, ◌≤◌, ◌∙◌, refl, ap, sym, arith}
+use Rattle.std.proofs.Common.{ap, sym, arith}
 use Rattle.std.proofs.lemmas.Result.{err_from_is_err_and}
-use Rattle.jl_frames.specs.Index.{behind}
 use Rattle.jl_lines.specs.declared.waves.Broken.TheVariants as broken
 use Rattle.jl_lines.specs.Going.{outcome}
 use Rattle.jl_lines.specs.Giving.{outlet}

@@ -1,4 +1,4 @@
-use Rattle.std.proofs.Common.{◌≡◌, [], ◌∙◌, Option, Some, None, length, sym, ap}
+use Rattle.std.proofs.Common.{◌≡◌, [], ◌∙◌, Option, Some, None, sym, ap}
 use Rattle.std.proofs.lemmas.Result.{err_from_is_err_and}
 use Rattle.jl_base.specs.declared.place.Fault.{Fault}
 use Rattle.jl_rows.specs.Files.{all_rows}

@@ -5,7 +5,7 @@ use Rattle.jl_lines.specs.Going.{outcome}
 use Rattle.jl_lines.specs.Stretches.{left_from, stand_at}
 use Rattle.jl_lines.proofs.GoingLemmas.{halts_then}
 use Rattle.jl_lines.proofs.Laid.{begins_stand, laid_count, laid_order, stand_in}
-use Rattle.jl_lines.proofs.Stretching.{left_ends, left_enters}
+use Rattle.jl_lines.proofs.Stretching.{left_enters}
 use Rattle.jl_lines.proofs.decoding.Decoding.stretch.Goals as goal
 
 pub by_frame-init : goal.by_frame-init

@@ -1,6 +1,6 @@
 -- Rows whose terms may stand where they do.
-use Rattle.std.proofs.Common.{◌≡◌, Bool, true, false, not, ◌&&◌, List, ◌∷◌, Option, Some, None, is_some, Result, Ok, Err, refl, ap, sym, ◌∙◌, cond}
-use Rattle.jl_base.specs.Results.{◌>>=◌, some_or, refuse_if}
+use Rattle.std.proofs.Common.{◌≡◌, Bool, true, false, not, ◌&&◌, List, Option, is_some, Ok, refl, ap, sym, ◌∙◌, cond}
+use Rattle.jl_base.specs.Results.{some_or, refuse_if}
 use Rattle.jl_base.specs.Terms.{Value, Item}
 use Rattle.jl_base.specs.declared.kind.Kind.{Kind}
 use Rattle.jl_base.specs.declared.kind.Kind.TheVariants.{NoStar, NotPlain, NoTerm, GraphOpen}

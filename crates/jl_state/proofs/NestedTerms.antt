@@ -1,5 +1,5 @@
 -- Triple terms by where their texts lie: what they mean, and what they keep.
-use Rattle.std.proofs.Common.{◌≡◌, ℕ, List, Ok, refl, ap, sym, subst, arith, ◌∙◌}
+use Rattle.std.proofs.Common.{◌≡◌, ℕ, List, Ok, refl, ap, sym, subst, arith}
 use Rattle.jl_base.specs.Terms as terms
 use Rattle.jl_rows.specs.Written as written
 use Rattle.jl_rows.specs.Written.{Ids}

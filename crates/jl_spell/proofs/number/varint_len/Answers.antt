@@ -1,4 +1,4 @@
-use Rattle.std.proofs.Common.{◌≡◌, length, ap, sym}
+use Rattle.std.proofs.Common.{length, ap, sym}
 use Rattle.jl_spell.proofs.VarintSteps.{one_byte}
 use Rattle.jl_spell.proofs.number.varint_len.Goals as goal
 

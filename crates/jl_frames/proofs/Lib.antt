@@ -1,2 +1,3 @@
 pub mod IndexLemmas
 pub mod RunLemmas
+pub mod Stretches

@@ -17,10 +17,6 @@ rest_of bytes frame before at B = joined (placed_on frame.number before (rows (s
 abbrev pub rows_of : List ℕ → ℕ → List Span → Reading Placed Fault → Reading Placed Fault
 rows_of bytes number bodies B = rows_then number (map (text_of bytes) bodies) B
 
--- those of an index after its first i frames and up to its first `end`, and then what follows
-abbrev pub between : List ℕ → Index → ℕ → ℕ → Reading Placed Fault → Reading Placed Fault
-between bytes index i end B = rows_of bytes (index.first + i) (slice_range index.bodies i end) B
-
 abbrev pub frame_at : ℕ → Span → Frame
 frame_at number body = record { number = number; end = end_of body }
 

@@ -6,12 +6,12 @@ ghost use Rattle.jl_base.specs.Results.{Reading};
 ghost use Rattle.jl_base.specs.declared.place.Fault as faults;
 ghost use Rattle.jl_frames.specs.Index.{AreLaid, IsIndex, behind};
 ghost use Rattle.jl_frames.specs.Runs.{Cover};
+ghost use Rattle.jl_frames.specs.Stretches.{between};
 ghost use Rattle.jl_rows.specs.Files.{Placed, all_rows};
 ghost use Rattle.jl_lines.specs.Kept.{Keeps};
 ghost use Rattle.jl_lines.specs.Pages.{KeepsNone};
 ghost use Rattle.jl_lines.specs.Going.{at_end, counted, outcome};
 ghost use Rattle.jl_lines.specs.Giving.{Delivers, Gives, outlet};
-ghost use Rattle.jl_lines.specs.Stretches.{between};
 
 use crate::decoding::{Counts, Decoding, Refused};
 use crate::stretch::Stand;

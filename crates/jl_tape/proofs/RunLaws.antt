@@ -11,12 +11,14 @@ use Rattle.jl_rows.specs.Files.{Placed, ends_at, frame_rows, frames, rows_from, 
 use Rattle.jl_frames.specs.Index.{Index, behind}
 use Rattle.jl_frames.specs.Runs.{Cover, frames_before}
 use Rattle.jl_frames.proofs.RunLemmas.{run_in_cover}
-use Rattle.jl_tape.specs.Runs.{FramesAreFile, PlannedRuns, RunThen, RunsCover, between, no_rows, run_begin, run_end, run_rows}
-use Rattle.jl_tape.proofs.Stretches.{between_none, between_split}
+use Rattle.jl_tape.specs.Runs.{FramesAreFile, PlannedRuns, RunThen, RunsCover, no_rows, run_begin, run_end, run_rows}
+use Rattle.jl_frames.specs.Stretches.{between}
+use Rattle.jl_frames.proofs.Stretches.{between_none, whole_between}
+use Rattle.jl_tape.proofs.Stretches.{between_joined}
 
 pub run_then : RunThen
 run_then bytes index run end B within inside =
-    between_split bytes index (run_begin index run) (run_end index run) end B (omega arith) within inside
+    between_joined bytes index (run_begin index run) (run_end index run) end B (omega arith) within inside
 
 cover_above : (index : Index) (k : ℕ) (runs : List Run) (end : ℕ) → Cover index k runs end → k ≤ end
 cover_above index k [] end same = omega (arith, same)
@@ -30,7 +32,7 @@ runs_cover bytes index k (run ∷ runs) end B all inside =
     let begin : run_begin index run ≡ k = omega (arith, number) in
     let le : k ≤ k + run.frames = omega arith in
     let this : between bytes index k (k + run.frames) no_rows ≡ run_rows bytes index run = ap (λ (i : ℕ). between bytes index i (i + run.frames) no_rows) (sym begin) in
-    between_split bytes index k (k + run.frames) end B le above inside
+    between_joined bytes index k (k + run.frames) end B le above inside
     ∙ ap (λ (R : Reading Placed Fault). joined R (between bytes index (k + run.frames) end B)) this
     ∙ ap (joined (run_rows bytes index run)) (runs_cover bytes index (k + run.frames) runs end B all.2 inside)
 
@@ -47,22 +49,5 @@ planned_runs index runs i run cover e =
       hi = ap (λ (r : Run). r.hi) is.begins ∙ ap (λ (n : ℕ). behind index (n + run.frames)) begin;
     }
 
--- the rows of frames, and the fault after them
-then_tail : (n m : ℕ) (xs : List (List ℕ)) (fault : Option Kind) → m ≡ n + length xs → rows_then n xs (record { items = []; fault = ends_at m 0 fault }) ≡ rows_from n xs fault
-unfolding rows_from
-then_tail n m [] fault e = let same : m ≡ n = omega (arith, e) in ap (λ (k : ℕ). record { items = []; fault = ends_at k 0 fault }) same
-then_tail n m (x ∷ xs) fault e =
-    let next : m ≡ (n + 1) + length xs = omega (arith, e) in
-    ap (joined (frame_rows n x)) (then_tail (n + 1) m xs fault next)
-
 pub frames_are_file : FramesAreFile
-frames_are_file file index is =
-    let all : slice_range index.bodies 0 (length index.bodies) ≡ index.bodies = take_all (length index.bodies - 0) index.bodies (omega arith) in
-    let size : length index.bodies ≡ length (frames file).items = sym (length-map index.bodies (text_of file)) ∙ ap length is.bodies in
-    let number : length index.bodies + 1 ≡ 1 + length (frames file).items = omega (arith, size) in
-    let one : index.first + 0 ≡ 1 = omega (arith, is.first) in
-    ap (λ (xs : List Span). rows_then (index.first + 0) (map (text_of file) xs) (record { items = []; fault = index.tail })) all
-    ∙ ap (λ (n : ℕ). rows_then n (map (text_of file) index.bodies) (record { items = []; fault = index.tail })) one
-    ∙ ap (λ (xs : List (List ℕ)). rows_then 1 xs (record { items = []; fault = index.tail })) is.bodies
-    ∙ ap (λ (f : Option Fault). rows_then 1 (frames file).items (record { items = []; fault = f })) is.tail
-    ∙ then_tail 1 (length index.bodies + 1) (frames file).items (frames file).fault number
+frames_are_file file index is = whole_between file index is

@@ -5,15 +5,12 @@ use Rattle.jl_base.specs.Spans.{text_of}
 use Rattle.jl_base.specs.declared.place.Fault.{Fault}
 use Rattle.jl_base.specs.declared.place.Run.{Run}
 use Rattle.jl_rows.specs.Files.{Placed, all_rows, rows_then}
+use Rattle.jl_frames.specs.Stretches.{between}
 use Rattle.jl_frames.specs.Index.{Index, IsIndex, behind}
 use Rattle.jl_frames.specs.Runs.{Cover}
 
 abbrev pub no_rows : Reading Placed Fault
 no_rows = record { items = []; fault = None }
-
--- the rows of an index's frames after the first i and up to the first `end`, and then what follows
-abbrev pub between : List ℕ → Index → ℕ → ℕ → Reading Placed Fault → Reading Placed Fault
-between bytes index i end B = rows_then (index.first + i) (map (text_of bytes) (slice_range index.bodies i end)) B
 
 -- how many of an index's frames stand before a run, and how many up to its end
 abbrev pub run_begin : Index → Run → ℕ

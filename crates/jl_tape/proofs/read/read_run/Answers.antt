@@ -1,6 +1,7 @@
 use Rattle.std.proofs.Common.{◌≡◌, ℕ, ◌+◌, ◌-◌, None, Some, length, sym, ap, arith}
 use Rattle.jl_tape.specs.Runs.{run_rows}
-use Rattle.jl_tape.proofs.Stretches.{body_of, few_in_run, few_next, laid_count, run_next}
+use Rattle.jl_frames.proofs.Stretches.{body_of, laid_count}
+use Rattle.jl_tape.proofs.Stretches.{few_in_run, few_next, run_next}
 use Rattle.jl_tape.proofs.read.read_run.Goals as goal
 
 pub overflow_add-i-end : goal.overflow_add-i-end

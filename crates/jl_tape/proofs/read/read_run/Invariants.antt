@@ -1,7 +1,8 @@
 use Rattle.std.proofs.Common.{◌≡◌, ◌+◌, ◌*◌, ◌≤◌, None, length}
 use Rattle.jl_base.specs.Results.{joined}
 use Rattle.jl_frames.specs.Index.{behind}
-use Rattle.jl_tape.specs.Runs.{between, no_rows, run_rows}
+use Rattle.jl_frames.specs.Stretches.{between}
+use Rattle.jl_tape.specs.Runs.{no_rows, run_rows}
 use Rattle.jl_tape.specs.Tapes.{HasRows, reading_of}
 use Rattle.jl_tape.proofs.read.read_run.Given as goal
 

@@ -1,4 +1,4 @@
-use Rattle.jl_tape.proofs.Stretches.{index_laid}
+use Rattle.jl_frames.proofs.Stretches.{index_laid}
 use Rattle.jl_tape.proofs.tests.reads.Goals as goal
 
 pub read_run-requires-clause-laid : goal.read_run-requires-clause-laid

@@ -3,10 +3,12 @@ use Rattle.std.proofs.lemmas.Result.{err_from_is_err_and}
 use Rattle.jl_lines.specs.declared.waves.Broken.TheVariants as broken
 use Rattle.jl_lines.specs.Going.{outcome}
 use Rattle.jl_lines.specs.Giving.{outlet}
-use Rattle.jl_lines.specs.Stretches.{between, left_from, stand_at}
+use Rattle.jl_frames.specs.Stretches.{between}
+use Rattle.jl_lines.specs.Stretches.{left_from, stand_at}
 use Rattle.jl_lines.proofs.GivingLemmas.{passes_none, passes_on, passes_then, passes_breaks, passes_delivers, passes_gave, breaks_gave, breaks_halted, breaks_halting, delivers_gave}
 use Rattle.jl_lines.proofs.Pages.{kept_anew}
-use Rattle.jl_lines.proofs.Laid.{begins_stand, laid_last}
+use Rattle.jl_frames.proofs.Stretches.{laid_last}
+use Rattle.jl_lines.proofs.Laid.{begins_stand}
 use Rattle.jl_lines.proofs.Stretching.{left_begins}
 use Rattle.jl_lines.proofs.decoding.Decoding.deliver.Goals as goal
 

@@ -6,7 +6,8 @@ use Rattle.jl_frames.specs.Index.{behind}
 use Rattle.jl_lines.specs.Kept.{Keeps}
 use Rattle.jl_lines.specs.Going.{counted, outcome}
 use Rattle.jl_lines.specs.Giving.{Passes, outlet}
-use Rattle.jl_lines.specs.Stretches.{IsStand, between, left_from, reach_of}
+use Rattle.jl_frames.specs.Stretches.{between}
+use Rattle.jl_lines.specs.Stretches.{IsStand, left_from, reach_of}
 use Rattle.jl_lines.proofs.decoding.Decoding.deliver.Given as goal
 
 -- from the first frame to a stand

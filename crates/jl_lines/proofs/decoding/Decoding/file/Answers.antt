@@ -7,12 +7,12 @@ use Rattle.jl_lines.specs.Going.{Outcome, at_end, outcome}
 use Rattle.jl_lines.specs.Giving.{outlet}
 use Rattle.jl_lines.proofs.Endings.{outcome_none}
 use Rattle.jl_lines.proofs.GivingLemmas.{breaks_fault, passes_breaks, passes_on}
-use Rattle.jl_lines.proofs.Laid.{laid_file}
-use Rattle.jl_lines.proofs.Stretching.{whole_between}
+use Rattle.jl_frames.proofs.Stretches.{index_laid}
+use Rattle.jl_frames.proofs.Stretches.{whole_between}
 use Rattle.jl_lines.proofs.decoding.Decoding.file.Goals as goal
 
 pub waves-requires-clause-laid : goal.waves-requires-clause-laid
-waves-requires-clause-laid g c = laid_file c.args.bytes.now c.args.frames.now c.requires.indexed
+waves-requires-clause-laid g c = index_laid c.args.bytes.now c.args.frames.now c.requires.indexed
 
 pub returns-in_err-waves : goal.returns-in_err-waves
 returns-in_err-waves g c =

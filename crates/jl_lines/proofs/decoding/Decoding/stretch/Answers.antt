@@ -4,7 +4,8 @@ use Rattle.jl_base.specs.declared.place.Span.{Span}
 use Rattle.jl_lines.specs.Going.{outcome}
 use Rattle.jl_lines.specs.Stretches.{left_from, stand_at}
 use Rattle.jl_lines.proofs.GoingLemmas.{halts_then}
-use Rattle.jl_lines.proofs.Laid.{begins_stand, laid_count, laid_order, stand_in}
+use Rattle.jl_frames.proofs.Stretches.{laid_count, laid_order}
+use Rattle.jl_lines.proofs.Laid.{begins_stand, stand_in}
 use Rattle.jl_lines.proofs.Stretching.{left_enters}
 use Rattle.jl_lines.proofs.decoding.Decoding.stretch.Goals as goal
 

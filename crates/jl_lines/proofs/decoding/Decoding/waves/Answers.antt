@@ -4,10 +4,11 @@ use Rattle.jl_frames.specs.Runs.{frames_before, runs_per_wave}
 use Rattle.jl_frames.proofs.RunLemmas.{whole_cover}
 use Rattle.jl_lines.specs.Going.{outcome}
 use Rattle.jl_lines.specs.Giving.{outlet}
-use Rattle.jl_lines.specs.Stretches.{between}
+use Rattle.jl_frames.specs.Stretches.{between}
 use Rattle.jl_lines.proofs.GivingLemmas.{passes_none, passes_on, passes_then, passes_breaks}
-use Rattle.jl_lines.proofs.Laid.{laid_count, laid_last}
-use Rattle.jl_lines.proofs.Stretching.{between_split, none_between}
+use Rattle.jl_frames.proofs.Stretches.{laid_count, laid_last}
+use Rattle.jl_frames.proofs.Stretches.{between_split}
+use Rattle.jl_lines.proofs.Stretching.{none_between}
 use Rattle.jl_lines.proofs.Waving.{ends_wave}
 use Rattle.jl_lines.proofs.decoding.Decoding.waves.Goals as goal
 

@@ -7,7 +7,7 @@ use Rattle.jl_frames.specs.Runs.{frames_before, runs_per_wave}
 use Rattle.jl_lines.specs.Kept.{Keeps}
 use Rattle.jl_lines.specs.Going.{counted, outcome}
 use Rattle.jl_lines.specs.Giving.{Passes, outlet}
-use Rattle.jl_lines.specs.Stretches.{between}
+use Rattle.jl_frames.specs.Stretches.{between}
 use Rattle.jl_lines.proofs.decoding.Decoding.waves.Given as goal
 
 -- from the first frame to the first one of wave w

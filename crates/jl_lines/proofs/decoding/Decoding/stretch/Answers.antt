@@ -1,4 +1,4 @@
-use Rattle.std.proofs.Common.{◌≡◌, ◌+◌, ◌-◌, ◌≤◌, ◌∙◌, refl, subst, sym, arith}
+use Rattle.std.proofs.Common.{◌≡◌, ◌+◌, ◌-◌, ◌≤◌, ◌<◌, ◌∙◌, refl, subst, sym, arith}
 use Rattle.std.proofs.lemmas.Result.{err_from_is_err_and}
 use Rattle.jl_base.specs.declared.place.Span.{Span}
 use Rattle.jl_lines.specs.Going.{outcome}
@@ -56,7 +56,8 @@ pub returns-in_err-next-clause-comes : goal.returns-in_err-next-clause-comes
 returns-in_err-next-clause-comes c B =
     let bytes = c.args.bytes.now in
     let frames = c.args.frames.now in
-    let into = left_enters bytes frames c.args.end B c.by_frame.stand c.frame-body.result c.by_frame-test.true c.frame-body.ensures in
+    let before : c.by_frame.stand.frame < c.args.end = omega (arith, c.by_frame-test.true) in
+    let into = left_enters bytes frames c.args.end B c.by_frame.stand c.frame-body.result before c.frame-body.ensures in
     let rest = left_from bytes frames (stand_at (c.by_frame.stand.frame + 1)) c.args.end B in
     let halts = rw (c.first.ensures.exact, sym into) at (c.in_err-next.ensures.comes rest) in
     let p = err_from_is_err_and c.from_residual.result c.from_residual.ensures.1 in
@@ -73,8 +74,9 @@ returns-in-Some-clause-comes c B =
     let rest = left_from bytes frames (stand_at (k + 1)) c.args.end B in
     let within = rw c.in-Some.is at c.in_ok-next.ensures.within in
     let here : body.at + (c.in-Some.next - body.at) ≡ c.in-Some.next = omega (arith, within.0) in
-    let into = left_enters bytes frames c.args.end B c.by_frame.stand body c.by_frame-test.true c.frame-body.ensures in
-    let out = left_enters bytes frames c.args.end B (record { frame = k; place = c.in-Some.next - body.at; before = c.in-Some.before }) body c.by_frame-test.true c.frame-body.ensures in
+    let before : k < c.args.end = omega (arith, c.by_frame-test.true) in
+    let into = left_enters bytes frames c.args.end B c.by_frame.stand body before c.frame-body.ensures in
+    let out = left_enters bytes frames c.args.end B (record { frame = k; place = c.in-Some.next - body.at; before = c.in-Some.before }) body before c.frame-body.ensures in
     let comes = rw c.in-Some.is at (c.in_ok-next.ensures.comes rest) in
     let came = rw (c.first.ensures.exact, sym into, sym here, sym out) at comes in
     c.by_frame.invariant.went B ∙ came
@@ -114,7 +116,8 @@ by_frame-preserved c =
       few = omega (arith, above, next, c.in_ok-next.ensures.few, c.by_frame.invariant.few);
       went = λ B. (
           let rest = left_from bytes frames (stand_at (k + 1)) c.args.end B in
-          let into = left_enters bytes frames c.args.end B c.by_frame.stand body c.by_frame-test.true c.frame-body.ensures in
+          let before : k < c.args.end = omega (arith, c.by_frame-test.true) in
+          let into = left_enters bytes frames c.args.end B c.by_frame.stand body before c.frame-body.ensures in
           let comes = rw c.in-None.is at (c.in_ok-next.ensures.comes rest) in
           let came = rw (c.first.ensures.exact, sym into) at comes in
           c.by_frame.invariant.went B ∙ came);

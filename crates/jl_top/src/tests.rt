@@ -99,6 +99,28 @@ fn worked_files(rt: HostRuntime) -> Result<(), Fail> {
 }
 
 #[test]
+fn fault_in_fourth_of_ninety_frames(rt: HostRuntime) -> Result<(), Fail> {
+    let alloc = rt.alloc();
+    let first = "150a0c0a0a100148085008580878010a054a03120161";
+    let triple = "100a0e120c0a0210012a0210014a021001";
+    let mut file = bytes_of(alloc, first)?;
+    push_bytes(&mut file, triple)?;
+    push_bytes(&mut file, triple)?;
+    push_bytes(&mut file, "0c0a0212000a0612040a021005")?;
+    for _ in 0..85 {
+        push_bytes(&mut file, REPEATED)?;
+    }
+    push_bytes(&mut file, "040a021a00")?;
+    let left = served(&rt, alloc, NQUADS, &file, [&[], &[], &[]])?;
+    assert_eq!(rt; left.status, 1);
+    let lines = b"<a> <a> <a> .\n<a> <a> <a> .\n<a> <a> <a> .\n".as_slice();
+    assert_eq!(rt; left.out.under_way(), lines);
+    let line = b"jellyp: malformed: file 1, frame 4, row 2: NoEntry\n".as_slice();
+    assert_eq!(rt; left.err.under_way(), line);
+    Ok(())
+}
+
+#[test]
 fn reports(rt: HostRuntime) -> Result<(), Fail> {
     let alloc = rt.alloc();
     for report in &REPORTS {

@@ -74,7 +74,9 @@ impl Decoding {
     }
 
     // The rows of a frame from a place in it on, after so many rows: the place where the page became long and how many
-    // rows stand before it, or None at the frame's end.
+    // rows stand before it, or None at the frame's end. It stands apart, so that the loop over rows has the registers to
+    // itself whoever calls it.
+    #[inline(never)]
     pub(crate) fn rows(
         &mut self,
         alloc: Global,

@@ -1,0 +1,9 @@
+pub mod Following
+pub mod AskLemmas
+pub mod MarkLemmas
+pub mod Composed
+pub mod GrowLemmas
+pub mod RowSteps
+pub mod EntryLemmas
+pub mod SumLemmas
+pub mod FitLemmas

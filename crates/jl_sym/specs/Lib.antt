@@ -1,0 +1,9 @@
+pub mod Seen
+pub mod Checked
+pub mod Asking
+pub mod Lays
+pub mod Marking
+pub mod Held
+pub mod Growth
+pub mod RowSteps
+pub mod Sums

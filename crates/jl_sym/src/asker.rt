@@ -1,0 +1,348 @@
+//! What a row asks of the state before the run.
+ghost use Rattle.std.specs.Prelude.{◌≡◌, ◌≤◌, ◌++◌, ◌∷◌, [], true, OnOk, OnErr, length};
+ghost use Rattle.jl_base.specs.Limits.{most_bytes};
+ghost use Rattle.jl_rows.specs.Decoder.{size_of};
+ghost use Rattle.jl_rows.specs.Seen as rows;
+ghost use Rattle.jl_rows.specs.Written as written;
+ghost use Rattle.jl_state.specs.Positions.{inner_under, IsPlain, MayStand};
+ghost use Rattle.jl_state.specs.Seen.{IsLeaf};
+ghost use Rattle.jl_sym_laws.specs.Cutting as cutting;
+ghost use Rattle.jl_sym_laws.specs.RelativeIds.{incoming, refs_after};
+ghost use Rattle.jl_sym_laws.specs.SmallSteps as small;
+ghost use Rattle.jl_sym_laws.specs.Summaries as sums;
+ghost use Rattle.jl_sym.specs.Asking.{Asks, place_demands};
+ghost use Rattle.jl_sym.specs.Checked.{checked, options_of, IsHere};
+ghost use Rattle.jl_sym.specs.Lays.{laid};
+ghost use Rattle.jl_sym.specs.Marking.{AreAsked};
+ghost use Rattle.jl_sym.specs.Seen.{id_seen, refs_seen, need_seen, last_seen, demands_seen, position_of, HasLast};
+
+use crate::demand::{Demand, Kept, Need};
+use crate::growing::Last;
+use crate::marks::Marks;
+use crate::position::Position;
+use crate::relative_id::{Refs, RelativeId, is_reference_in, size_of};
+use crate::tag::is_tag;
+use jl_base::{Fault, Kind, Place};
+use jl_rows::{Options, RawIri, RawTail, RawTerm, RawTriple, Table, triple_term_at};
+use jl_state::Stop;
+use std::alloc::AllocError;
+
+/// Where a row stands, with what its checks need.
+#[derive(Clone, Copy)]
+pub(crate) struct Here<'a> {
+    pub bytes: &'a [u8],
+    pub options: &'a Options,
+    pub place: Place,
+}
+
+/// A row of a run, after so many others.
+#[derive(Clone, Copy)]
+pub(crate) struct Asker<'a> {
+    pub here: Here<'a>,
+    pub moment: u32,
+}
+
+impl Asker<'_> {
+    // One more demand.
+    #[inline]
+    fn push(&self, demands: &mut Vec<Demand>, kind: Kind, need: Need) -> Result<(), AllocError>
+        ensures demands { OnOk result (demands_seen demands.new.items ≡ demands_seen demands.old.items
+            ++ record { moment = self.now.moment; fault = record { place = self.now.here.place; kind = kind }; need = need_seen need } ∷ []) }
+        ensures kept { OnErr result (demands.new.items ≡ demands.old.items) }
+    {
+        let fault = Fault {
+            place: self.here.place,
+            kind,
+        };
+        demands.push(Demand {
+            moment: self.moment,
+            fault,
+            need,
+        })?;
+        Ok(())
+    }
+
+    /// Asks for what isn't marked.
+    #[inline(never)]
+    pub fn ask_first(
+        &self,
+        demands: &mut Vec<Demand>,
+        marks: &mut Marks,
+        kind: Kind,
+        need: Need,
+    ) -> Result<(), Stop>
+        requires good { AreAsked self.now.moment (demands_seen demands.old.items) marks.old }
+        requires made { cutting.IsMadeNeed (need_seen need) }
+        ensures asks { Asks (options_of self.now.here) self.now.moment self.now.here.place (demands_seen demands.old.items)
+            (small.demand self.now.here.place kind (need_seen need) ∷ []) (demands_seen demands.new.items) result }
+        ensures good { AreAsked self.now.moment (demands_seen demands.new.items) marks.new }
+    {
+        self.push(demands, kind, need)?;
+        marks.mark(need);
+        Ok(())
+    }
+
+    /// Asks for what no options decide, unless the run asked for it before.
+    #[inline]
+    pub fn ask(
+        &self,
+        demands: &mut Vec<Demand>,
+        marks: &mut Marks,
+        kind: Kind,
+        need: Need,
+    ) -> Result<(), Stop>
+        requires good { AreAsked self.now.moment (demands_seen demands.old.items) marks.old }
+        requires made { cutting.IsMadeNeed (need_seen need) }
+        ensures asks { Asks (options_of self.now.here) self.now.moment self.now.here.place (demands_seen demands.old.items)
+            (small.demand self.now.here.place kind (need_seen need) ∷ []) (demands_seen demands.new.items) result }
+        ensures good { AreAsked self.now.moment (demands_seen demands.new.items) marks.new }
+    {
+        if marks.has(need) {
+            return Ok(());
+        }
+        self.ask_first(demands, marks, kind, need)
+    }
+
+    /// The id of an entry must be one of its table. That of a known one is so on every state.
+    #[inline]
+    pub fn fits(
+        &self,
+        demands: &mut Vec<Demand>,
+        marks: &mut Marks,
+        table: Table,
+        id: RelativeId,
+    ) -> Result<(), Stop>
+        requires good { AreAsked self.now.moment (demands_seen demands.old.items) marks.old }
+        requires made { cutting.IsNext (id_seen id) }
+        ensures asks { Asks (options_of self.now.here) self.now.moment self.now.here.place (demands_seen demands.old.items)
+            (small.demand self.now.here.place Kind.BadEntry (sums.Fits table (id_seen id)) ∷ []) (demands_seen demands.new.items) result }
+        ensures good { AreAsked self.now.moment (demands_seen demands.new.items) marks.new }
+        ensures fits { OnOk result (cutting.is_id_in (size_of (options_of self.now.here) table) (id_seen id) ≡ true) }
+    {
+        if !id.is_in(size_of(self.here.bytes, self.here.options, table)) {
+            return Err(Stop::Fault(Kind::BadEntry));
+        }
+        if let RelativeId::Given(_) = id {
+            return Ok(());
+        }
+        self.ask(demands, marks, Kind::BadEntry, Need::Fits(table, id))
+    }
+
+    // The slot of a reference must be filled.
+    #[inline(always)]
+    fn filled(
+        &self,
+        demands: &mut Vec<Demand>,
+        marks: &mut Marks,
+        table: Table,
+        id: RelativeId,
+    ) -> Result<(), Stop>
+        requires good { AreAsked self.now.moment (demands_seen demands.old.items) marks.old }
+        requires made { cutting.IsMadeReference table (id_seen id) }
+        ensures asks { Asks (options_of self.now.here) self.now.moment self.now.here.place (demands_seen demands.old.items)
+            (small.demand self.now.here.place Kind.NoEntry (sums.Filled table (id_seen id)) ∷ []) (demands_seen demands.new.items) result }
+        ensures good { AreAsked self.now.moment (demands_seen demands.new.items) marks.new }
+        ensures fits { OnOk result (cutting.is_reference_in (options_of self.now.here) table (id_seen id) ≡ true) }
+    {
+        if !is_reference_in(self.here.bytes, self.here.options, table, id) {
+            return Err(Stop::Fault(Kind::NoEntry));
+        }
+        if marks.has_slot(table, id) {
+            return Ok(());
+        }
+        self.ask_first(demands, marks, Kind::NoEntry, Need::Filled(table, id))
+    }
+
+    /// An IRI, whose ids become the last ones.
+    #[inline(always)]
+    pub fn iri(
+        &self,
+        demands: &mut Vec<Demand>,
+        marks: &mut Marks,
+        last: &mut Refs,
+        iri: RawIri,
+    ) -> Result<(), Stop>
+        requires here { IsHere self.now.here }
+        requires good { AreAsked self.now.moment (demands_seen demands.old.items) marks.old }
+        requires last { HasLast last.old }
+        ensures asks { Asks (options_of self.now.here) self.now.moment self.now.here.place (demands_seen demands.old.items)
+            (small.term_demands self.now.here.place (refs_seen last.old) (written.Iri (rows.ids_seen iri))) (demands_seen demands.new.items) result }
+        ensures ids { OnOk result (refs_seen last.new ≡ refs_after (written.Iri (rows.ids_seen iri)) (refs_seen last.old)) }
+        ensures good { AreAsked self.now.moment (demands_seen demands.new.items) marks.new }
+        ensures last { OnOk result (HasLast last.new) }
+    {
+        let ids = last.after(iri);
+        self.filled(demands, marks, Table::Prefix, ids.prefix)?;
+        self.filled(demands, marks, Table::Name, ids.name)?;
+        *last = ids;
+        Ok(())
+    }
+
+    // The end of a literal.
+    #[inline]
+    fn tail(&self, demands: &mut Vec<Demand>, marks: &mut Marks, tail: RawTail) -> Result<(), Stop>
+        requires here { IsHere self.now.here }
+        requires good { AreAsked self.now.moment (demands_seen demands.old.items) marks.old }
+        requires inside { rows.HasTail self.now.here.bytes.now tail }
+        ensures asks { Asks (options_of self.now.here) self.now.moment self.now.here.place (demands_seen demands.old.items)
+            (small.tail_demands self.now.here.place (rows.ending_seen self.now.here.bytes.now tail)) (demands_seen demands.new.items) result }
+        ensures good { AreAsked self.now.moment (demands_seen demands.new.items) marks.new }
+    {
+        match tail {
+            RawTail::Simple => Ok(()),
+            RawTail::Lang(span) => {
+                let at = span.at as usize;
+                if is_tag(&self.here.bytes[at..at + span.len as usize]) {
+                    Ok(())
+                } else {
+                    Err(Stop::Fault(Kind::BadLangtag))
+                }
+            }
+            RawTail::Typed(id) => {
+                self.filled(demands, marks, Table::Datatype, RelativeId::Given(id))
+            }
+        }
+    }
+
+    // A term that is no triple term, wherever it stands.
+    #[inline(always)]
+    fn leaf(
+        &self,
+        demands: &mut Vec<Demand>,
+        marks: &mut Marks,
+        last: &mut Refs,
+        raw: &RawTerm,
+    ) -> Result<(), Stop>
+        requires here { IsHere self.now.here }
+        requires good { AreAsked self.now.moment (demands_seen demands.old.items) marks.old }
+        requires inside { rows.HasTerm self.now.here.bytes.now raw.now }
+        requires last { HasLast last.old }
+        requires leaf { IsLeaf raw.now }
+        ensures asks { Asks (options_of self.now.here) self.now.moment self.now.here.place (demands_seen demands.old.items)
+            (small.term_demands self.now.here.place (refs_seen last.old) (rows.term_seen self.now.here.bytes.now raw.now)) (demands_seen demands.new.items) result }
+        ensures ids { OnOk result (refs_seen last.new ≡ refs_after (rows.term_seen self.now.here.bytes.now raw.now) (refs_seen last.old)) }
+        ensures good { AreAsked self.now.moment (demands_seen demands.new.items) marks.new }
+        ensures last { OnOk result (HasLast last.new) }
+    {
+        match raw {
+            RawTerm::Iri(iri) => self.iri(demands, marks, last, *iri),
+            RawTerm::Bnode(_) => Ok(()),
+            RawTerm::Literal { lex: _, tail } => self.tail(demands, marks, *tail),
+            RawTerm::Default => Ok(()),
+            RawTerm::Triple(_) => unreachable!(),
+        }
+    }
+
+    /// A term that must be set, with the last ids after it.
+    #[inline(always)]
+    pub fn term(
+        &self,
+        demands: &mut Vec<Demand>,
+        marks: &mut Marks,
+        last: &mut Refs,
+        x: Position,
+        raw: &RawTerm,
+    ) -> Result<(), Stop>
+        requires here { IsHere self.now.here }
+        requires good { AreAsked self.now.moment (demands_seen demands.old.items) marks.old }
+        requires inside { rows.HasTerm self.now.here.bytes.now raw.now }
+        requires last { HasLast last.old }
+        ensures asks { Asks (options_of self.now.here) self.now.moment self.now.here.place (demands_seen demands.old.items)
+            (small.term_demands self.now.here.place (refs_seen last.old) (checked (options_of self.now.here) (position_of x) (rows.term_seen self.now.here.bytes.now raw.now))) (demands_seen demands.new.items) result }
+        ensures same { OnOk result (checked (options_of self.now.here) (position_of x) (rows.term_seen self.now.here.bytes.now raw.now) ≡ rows.term_seen self.now.here.bytes.now raw.now) }
+        ensures ids { OnOk result (refs_seen last.new ≡ refs_after (rows.term_seen self.now.here.bytes.now raw.now) (refs_seen last.old)) }
+        ensures good { AreAsked self.now.moment (demands_seen demands.new.items) marks.new }
+        ensures last { OnOk result (HasLast last.new) }
+    {
+        if let RawTerm::Triple(_) = raw {
+            return self.any_term(demands, marks, last, x, raw);
+        }
+        self.stands(x, raw)?;
+        self.leaf(demands, marks, last, raw)
+    }
+
+    // The same, wherever it stands.
+    #[cycle(ask)]
+    fn any_term(
+        &self,
+        demands: &mut Vec<Demand>,
+        marks: &mut Marks,
+        last: &mut Refs,
+        x: Position,
+        raw: &RawTerm,
+    ) -> Result<(), Stop>
+        requires here { IsHere self.now.here }
+        requires good { AreAsked self.now.moment (demands_seen demands.old.items) marks.old }
+        requires inside { rows.HasTerm self.now.here.bytes.now raw.now }
+        requires last { HasLast last.old }
+        ensures asks { Asks (options_of self.now.here) self.now.moment self.now.here.place (demands_seen demands.old.items)
+            (small.term_demands self.now.here.place (refs_seen last.old) (checked (options_of self.now.here) (position_of x) (rows.term_seen self.now.here.bytes.now raw.now))) (demands_seen demands.new.items) result }
+        ensures same { OnOk result (checked (options_of self.now.here) (position_of x) (rows.term_seen self.now.here.bytes.now raw.now) ≡ rows.term_seen self.now.here.bytes.now raw.now) }
+        ensures ids { OnOk result (refs_seen last.new ≡ refs_after (rows.term_seen self.now.here.bytes.now raw.now) (refs_seen last.old)) }
+        ensures good { AreAsked self.now.moment (demands_seen demands.new.items) marks.new }
+        ensures last { OnOk result (HasLast last.new) }
+    {
+        self.stands(x, raw)?;
+        let RawTerm::Triple(span) = raw else {
+            return self.leaf(demands, marks, last, raw);
+        };
+        self.three(
+            demands,
+            marks,
+            last,
+            &triple_term_at(self.here.bytes, *span),
+        )
+    }
+
+    // The terms of a triple term that may stand where it does.
+    #[cycle(ask)]
+    fn three(
+        &self,
+        demands: &mut Vec<Demand>,
+        marks: &mut Marks,
+        last: &mut Refs,
+        terms: &RawTriple,
+    ) -> Result<(), Stop>
+        requires here { IsHere self.now.here }
+        requires good { AreAsked self.now.moment (demands_seen demands.old.items) marks.old }
+        requires inside { rows.HasTriple self.now.here.bytes.now terms.now }
+        requires last { HasLast last.old }
+        ensures asks { Asks (options_of self.now.here) self.now.moment self.now.here.place (demands_seen demands.old.items)
+            (small.term_demands self.now.here.place (refs_seen last.old) (inner_under self.now.here.options.now.strict (options_of self.now.here) (rows.nested_seen self.now.here.bytes.now terms.now))) (demands_seen demands.new.items) result }
+        ensures same { OnOk result (inner_under self.now.here.options.now.strict (options_of self.now.here) (rows.nested_seen self.now.here.bytes.now terms.now) ≡ rows.nested_seen self.now.here.bytes.now terms.now) }
+        ensures ids { OnOk result (refs_seen last.new ≡ refs_after (rows.nested_seen self.now.here.bytes.now terms.now) (refs_seen last.old)) }
+        ensures good { AreAsked self.now.moment (demands_seen demands.new.items) marks.new }
+        ensures last { OnOk result (HasLast last.new) }
+    {
+        self.inner(demands, marks, last, Position::Subject, &terms.s)?;
+        self.inner(demands, marks, last, Position::Predicate, &terms.p)?;
+        self.inner(demands, marks, last, Position::Object, &terms.o)
+    }
+
+    // A term inside a triple term, which must be set.
+    #[cycle(ask)]
+    fn inner(
+        &self,
+        demands: &mut Vec<Demand>,
+        marks: &mut Marks,
+        last: &mut Refs,
+        x: Position,
+        raw: &Option<RawTerm>,
+    ) -> Result<(), Stop>
+        requires here { IsHere self.now.here }
+        requires good { AreAsked self.now.moment (demands_seen demands.old.items) marks.old }
+        requires inside { rows.HasPosition self.now.here.bytes.now raw.now }
+        requires last { HasLast last.old }
+        ensures asks { Asks (options_of self.now.here) self.now.moment self.now.here.place (demands_seen demands.old.items)
+            (small.term_demands self.now.here.place (refs_seen last.old) (checked (options_of self.now.here) (position_of x) (rows.position_seen self.now.here.bytes.now raw.now))) (demands_seen demands.new.items) result }
+        ensures same { OnOk result (checked (options_of self.now.here) (position_of x) (rows.position_seen self.now.here.bytes.now raw.now) ≡ rows.position_seen self.now.here.bytes.now raw.now) }
+        ensures ids { OnOk result (refs_seen last.new ≡ refs_after (rows.position_seen self.now.here.bytes.now raw.now) (refs_seen last.old)) }
+        ensures good { AreAsked self.now.moment (demands_seen demands.new.items) marks.new }
+        ensures last { OnOk result (HasLast last.new) }
+    {
+        let Some(raw) = raw else {
+            return Err(Stop::Fault(Kind::NoTerm));
+        };
+        self.any_term(demands, marks, last, x, raw)
+    }
+}

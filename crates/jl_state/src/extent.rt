@@ -120,7 +120,7 @@ impl Extent {
 
     /// The slot is filled.
     #[inline]
-    pub(crate) fn is_filled(self) -> bool
+    pub fn is_filled(self) -> bool
         ensures { IsTrue result ↔ IsFilled self }
     {
         self.len != u32::MAX

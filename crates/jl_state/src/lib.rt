@@ -5,6 +5,7 @@
 //! text needs once it is written.
 #![tactic(auto)]
 
+mod copy;
 mod extent;
 mod known;
 pub mod laws;
@@ -20,7 +21,9 @@ mod tests;
 
 pub use extent::Extent;
 pub use known::{Known, KnownTail, KnownThree};
+pub use position::{Position, stands_strictly};
 pub use state::State;
 pub use step::Stated;
 pub use stop::Stop;
 pub use tables::{LastIds, Tables};
+pub use tag::is_tag;

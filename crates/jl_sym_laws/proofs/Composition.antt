@@ -7,7 +7,8 @@ use Rattle.jl_base.specs.declared.place.Fault.{Fault}
 use Rattle.jl_state.specs.States.{Tables, State, slots_of_tables}
 use Rattle.jl_sym_laws.specs.Symbols.{sym_value, term_following}
 use Rattle.jl_sym_laws.specs.Summaries.{Written, Left, Summary}
-use Rattle.jl_sym_laws.specs.Acting.{slots_at, unmet, left_after, state_after, settled, act}
+use Rattle.jl_state.specs.Running.{settled}
+use Rattle.jl_sym_laws.specs.Acting.{slots_at, unmet, left_after, state_after, act}
 use Rattle.jl_sym_laws.specs.Composing.{later_write, later_demands, left_following, composed, AreBefore, IsLeftWithin, Timed}
 use Rattle.jl_sym_laws.specs.Laws.{Composes}
 use Rattle.jl_sym_laws.proofs.Ids.{real_following, real_ids_following, value_following}
@@ -15,7 +16,7 @@ use Rattle.jl_sym_laws.proofs.Logs.{tables_later, tables_earlier}
 use Rattle.jl_sym_laws.proofs.Later.{unmet_later, unmet_earlier, unmet_both}
 
 module _ (a : Summary) (s : State) (vs : List Written) (h : AreBefore a.rows a.writes) where
-  -- what the first run leaves, seen behind both
+  -- what the first run leaves, seen after both
   left_kept : (l : Left) (before : Option Value) → IsLeftWithin a.rows l → left_after s (a.writes ++ map (later_write a) vs) l before ≡ left_after s a.writes l before
   left_kept Left.Incoming before w = refl
   left_kept Left.Cleared before w = refl

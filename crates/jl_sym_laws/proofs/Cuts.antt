@@ -15,7 +15,8 @@ use Rattle.jl_state.proofs.Looks.{counted-cons}
 use Rattle.jl_sym_laws.specs.RelativeIds.{Id, real}
 use Rattle.jl_sym_laws.specs.Symbols.{sym_value}
 use Rattle.jl_sym_laws.specs.Summaries.{Written, Kept, Need, Demand, Left, Summary}
-use Rattle.jl_sym_laws.specs.Acting.{filled_in, put, played, tables_at, slots_at, text_in, last_id, meets, unmet, left_after, state_after, settled}
+use Rattle.jl_state.specs.Running.{settled}
+use Rattle.jl_sym_laws.specs.Acting.{filled_in, put, played, tables_at, slots_at, text_in, last_id, meets, unmet, left_after, state_after}
 use Rattle.jl_sym_laws.specs.Compacting.{last_write, goes_to}
 use Rattle.jl_sym_laws.specs.Sizes.{IsIdIn, IsNeedIn, AreWritesIn, AreDemandsIn}
 use Rattle.jl_sym_laws.specs.Cutting.{IsNext, IsMadeNeed, AreMadeWrites, AreMadeDemands, is_id_in, is_need_in, cut_writes, cut_demands, cut, Sized, StandsSized, CutKeeps, CutIsIn}

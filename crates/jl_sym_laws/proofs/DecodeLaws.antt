@@ -13,8 +13,9 @@ use Rattle.jl_state.specs.States.{State}
 use Rattle.jl_state.specs.Steps.{Stepped, step}
 use Rattle.jl_state.specs.Stands.{Stands, Answers}
 use Rattle.jl_state.proofs.StepLaw.{steps_follow}
-use Rattle.jl_sym_laws.specs.Acting.{settled, act}
-use Rattle.jl_sym_laws.specs.Runs.{at_place, state_of, behind, history_after, Leads}
+use Rattle.jl_state.specs.Running.{settled, at_place, state_of, after_rows}
+use Rattle.jl_sym_laws.specs.Acting.{act}
+use Rattle.jl_sym_laws.specs.Runs.{history_after, Leads}
 use Rattle.jl_sym_laws.specs.Laws.{Decodes, SumsSummarise, JoinedSummarise}
 use Rattle.jl_sym_laws.proofs.Composition.{composes}
 
@@ -41,11 +42,11 @@ unfolding decoded history_after
 row_leads o H r rs fault (Ok next) f h go = leads_on o H r rs fault next.1 (f next.0) h.0 (go next.0 h.1)
 row_leads o H r rs fault (Err kind) f h go = ap (λ (said : Result (List Item) Kind). (led_at r.place said (decoded o (r.row ∷ H) rs fault)).fault) h
 
-over_rows : (o : StreamOptions) (H : History) (s : State) (rs : List Placed) (fault : Option Fault) → Stands o s H → Leads o H (reading_of rs fault) (behind o s rs fault)
-unfolding behind
+over_rows : (o : StreamOptions) (H : History) (s : State) (rs : List Placed) (fault : Option Fault) → Stands o s H → Leads o H (reading_of rs fault) (after_rows o s rs fault)
+unfolding after_rows
 over_rows o H s [] fault h = end_leads o H s fault h
 over_rows o H s (r ∷ rs) fault h =
-    row_leads o H r rs fault (step o r.row s) (λ t. behind o t rs fault) (steps_follow o s H r.row h) (λ t stands. over_rows o (r.row ∷ H) t rs fault stands)
+    row_leads o H r rs fault (step o r.row s) (λ t. after_rows o t rs fault) (steps_follow o s H r.row h) (λ t stands. over_rows o (r.row ∷ H) t rs fault stands)
 
 pub decodes : Decodes
 decodes o R H s h = over_rows o H s R.items R.fault h

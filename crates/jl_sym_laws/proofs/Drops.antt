@@ -14,7 +14,8 @@ use Rattle.jl_state.specs.States.{Tables, State, table_in, entry_of, slots_of_ta
 use Rattle.jl_sym_laws.specs.RelativeIds.{Id, real}
 use Rattle.jl_sym_laws.specs.Symbols.{sym_value}
 use Rattle.jl_sym_laws.specs.Summaries.{Written, Need, Demand, Left}
-use Rattle.jl_sym_laws.specs.Acting.{played, slots_at, text_in, last_id, meets, unmet, left_after, state_after, settled}
+use Rattle.jl_state.specs.Running.{settled}
+use Rattle.jl_sym_laws.specs.Acting.{played, slots_at, text_in, last_id, meets, unmet, left_after, state_after}
 use Rattle.jl_sym_laws.specs.Compacting.{last_write, goes_to, same_id, same_address, is_overwritten, is_hidden, is_unseen, was_filled, moments_of, DropsWrite, same_need, was_asked, DropsDemand}
 use Rattle.jl_sym_laws.proofs.Logs.{played_length}
 use Rattle.jl_sym_laws.proofs.Later.{unmet_both}
@@ -51,7 +52,7 @@ last_both p (u ∷ us) vs =
     ap (λ (x : Text). option_or x (cond (p u) (Some u.text) None)) (last_both p us vs)
     ∙ sym (or_assoc (last_write p vs) (last_write p us) (cond (p u) (Some u.text) None))
 
--- the write in front counts, or one of those behind it does
+-- the write in front counts, or one of those after it does
 here : (p : Written → Bool) (w : Written) (ws : List Written) → p w ≡ true → is_some (last_write p (w ∷ ws)) ≡ true
 unfolding last_write
 here p w ws h = second_some (last_write p ws) (cond (p w) (Some w.text) None) (rw h refl)
@@ -308,7 +309,7 @@ drops_write m us w vs s filled unseen =
     ∙ ap (settled (unmet s (us ++ vs) m.demands)) states
 
 -- a demand that is dropped
-meets_stays : (s : State) (ws : List Written) (k n : ℕ) (need : Need) → k ≤ n → meets s ws k need ≡ true → meets s ws n need ≡ true
+pub meets_stays : (s : State) (ws : List Written) (k n : ℕ) (need : Need) → k ≤ n → meets s ws k need ≡ true → meets s ws n need ≡ true
 meets_stays s ws k n (Need.Fits t id) le h = h
 meets_stays s ws k n (Need.Filled t id) le h =
     there_test (slots_at s ws n) t (real id (last_id s.ids t))

@@ -19,3 +19,4 @@ pub mod Bounds
 pub mod Fitting
 pub mod Cuts
 pub mod Made
+pub mod Staying

@@ -34,19 +34,19 @@ shifted n j k = elim (cases_lt j k) [
   | inr above ↦ let sum : n + k ≤ n + j = omega (arith, above) in le-ltb _ _ sum ∙ sym (le-ltb _ _ above)
 ]
 
-abbrev pub entry_behind : Summary → (Table → ℕ) → Table → ℕ
-entry_behind a last t = real (entry_in a t) (last t)
+abbrev pub entry_after : Summary → (Table → ℕ) → Table → ℕ
+entry_after a last t = real (entry_in a t) (last t)
 
-put_later : (a : Summary) (last : Table → ℕ) (k : ℕ) (x : Tables) (w : Written) → put last (a.rows + k) x (later_write a w) ≡ put (entry_behind a last) k x w
+put_later : (a : Summary) (last : Table → ℕ) (k : ℕ) (x : Tables) (w : Written) → put last (a.rows + k) x (later_write a w) ≡ put (entry_after a last) k x w
 put_later a last k x w =
     ap (λ (b : Bool). cond b (filled_in x w.table (real (following (entry_in a w.table) w.id) (last w.table)) w.text) x) (shifted a.rows w.moment k)
     ∙ ap (λ (n : ℕ). cond (nat_lt w.moment k) (filled_in x w.table n w.text) x) (real_following (entry_in a w.table) w.id (last w.table))
 
-pub played_later : (a : Summary) (last : Table → ℕ) (k : ℕ) (x : Tables) (ws : List Written) → played last (a.rows + k) x (map (later_write a) ws) ≡ played (entry_behind a last) k x ws
+pub played_later : (a : Summary) (last : Table → ℕ) (k : ℕ) (x : Tables) (ws : List Written) → played last (a.rows + k) x (map (later_write a) ws) ≡ played (entry_after a last) k x ws
 unfolding played
 played_later a last k x [] = refl
 played_later a last k x (w ∷ ws) =
-    ap (λ (y : Tables). played last (a.rows + k) y (map (later_write a) ws)) (put_later a last k x w) ∙ played_later a last k (put (entry_behind a last) k x w) ws
+    ap (λ (y : Tables). played last (a.rows + k) y (map (later_write a) ws)) (put_later a last k x w) ∙ played_later a last k (put (entry_after a last) k x w) ws
 
 -- up to the second run's first row, none of its writes is seen
 pub played_not : (a : Summary) (last : Table → ℕ) (k : ℕ) (x : Tables) (ws : List Written) → k ≤ a.rows → played last k x (map (later_write a) ws) ≡ x
@@ -57,12 +57,12 @@ played_not a last k x (w ∷ ws) h =
     let same : put last k x (later_write a w) ≡ x = ap (λ (b : Bool). cond b (filled_in x w.table (real (following (entry_in a w.table) w.id) (last w.table)) w.text) x) (le-ltb _ _ late) in
     ap (λ (y : Tables). played last k y (map (later_write a) ws)) same ∙ played_not a last k x ws h
 
-entry_is : (a : Summary) (s : State) (t : Table) → entry_of (state_after a s) t ≡ entry_behind a (entry_of s) t
+entry_is : (a : Summary) (s : State) (t : Table) → entry_of (state_after a s) t ≡ entry_after a (entry_of s) t
 entry_is a s Table.Name = refl
 entry_is a s Table.Prefix = refl
 entry_is a s Table.Datatype = refl
 
-pub entries_are : (a : Summary) (s : State) → entry_of (state_after a s) ≡ entry_behind a (entry_of s)
+pub entries_are : (a : Summary) (s : State) → entry_of (state_after a s) ≡ entry_after a (entry_of s)
 entries_are a s = λ i t. entry_is a s t i
 
 -- what the second run sees, and what the first run sees

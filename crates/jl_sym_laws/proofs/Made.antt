@@ -43,7 +43,7 @@ prefix_written : (b : Bool) (n : ℕ) → (n == 0) ≡ b → IsMadeReference Tab
 prefix_written true n e = omega arith
 prefix_written false n e = above_zero n e
 
--- lists, one behind the other
+-- lists, one after the other
 writes_from : (j n : ℕ) (ws : List Written) → j ≤ n → AreMadeWrites n ws → AreMadeWrites j ws
 writes_from j n [] le h = tt
 writes_from j n (w ∷ ws) le h = let first = h.0 in let later : j ≤ w.moment = omega (arith, first, le) in (later, h.1, h.2)

@@ -16,7 +16,8 @@ use Rattle.jl_sym_laws.specs.Summaries.{unit}
 use Rattle.jl_sym_laws.specs.Acting.{unmet, act}
 use Rattle.jl_sym_laws.specs.Composing.{Timed}
 use Rattle.jl_sym_laws.specs.SmallSteps.{Small, smalls_of, smalls, with_term, small_step, of_small, of_smalls}
-use Rattle.jl_sym_laws.specs.Runs.{at_place, state_of, of_row}
+use Rattle.jl_state.specs.Running.{at_place, state_of}
+use Rattle.jl_sym_laws.specs.Runs.{of_row}
 use Rattle.jl_sym_laws.specs.Laws.{RowsSum}
 use Rattle.jl_sym_laws.proofs.Quiet.{unit_leaves}
 use Rattle.jl_sym_laws.proofs.Composition.{composes}
@@ -28,7 +29,7 @@ unfoldable pub all_steps : List Small → State → Result State Kind
 all_steps [] s = Ok s
 all_steps (x ∷ xs) s = small_step x s >>= λ t. all_steps xs t
 
--- a term at a position, and what comes behind it
+-- a term at a position, and what comes after it
 then_placed : (l : Looked) (x : Position) (s : State) (f : State → Result State Kind) (g : Value × Ids → Stepped)
     → ((v : Value × Ids) → f (with_term x v.0 v.1 s) ≡ state_of (g v)) → ((l >>= λ v. Ok (with_term x v.0 v.1 s)) >>= f) ≡ state_of (l >>= g)
 then_placed (Ok v) x s f g h = h v

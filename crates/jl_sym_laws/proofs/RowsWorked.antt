@@ -4,7 +4,7 @@ use Rattle.jl_sym_laws.specs.Acting.{played, unmet}
 use Rattle.jl_sym_laws.specs.Composing.{later_demands}
 use Rattle.jl_sym_laws.specs.SmallSteps.{of_smalls}
 use Rattle.jl_sym_laws.specs.Runs.{extended}
-use Rattle.jl_sym_laws.specs.WorkedRows.{rows_at, ThreeAtOpening, ThreeAfterTwo, ThreeAfterEight, ImpliedIdsAcrossRuns, NothingToRepeat, WrongRowBehind, RepeatedTermKeepsItsText, PreviousPrefixAfterRewrite, TripleAfterGraphEnd, NestedTermWithoutEntry}
+use Rattle.jl_sym_laws.specs.WorkedRows.{rows_at, ThreeAtOpening, ThreeAfterTwo, ThreeAfterEight, ImpliedIdsAcrossRuns, NothingToRepeat, WrongRowAfter, RepeatedTermKeepsItsText, PreviousPrefixAfterRewrite, TripleAfterGraphEnd, NestedTermWithoutEntry}
 
 pub three_at_opening : ThreeAtOpening
 unfolding played unmet later_demands of_smalls extended rows_at
@@ -26,9 +26,9 @@ pub nothing_to_repeat : NothingToRepeat
 unfolding played unmet later_demands of_smalls extended rows_at
 nothing_to_repeat = refl
 
-pub wrong_row_behind : WrongRowBehind
+pub wrong_row_after : WrongRowAfter
 unfolding played unmet later_demands of_smalls extended rows_at
-wrong_row_behind = refl
+wrong_row_after = refl
 
 pub repeated_term_keeps_its_text : RepeatedTermKeepsItsText
 unfolding played unmet later_demands of_smalls extended rows_at

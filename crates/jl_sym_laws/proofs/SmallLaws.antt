@@ -14,10 +14,10 @@ use Rattle.jl_state.specs.Steps.{ids_after, text_at, looked, entry_step}
 use Rattle.jl_sym_laws.specs.RelativeIds.{Id, real, Refs, real_ids, incoming, refs_after, entry_written}
 use Rattle.jl_sym_laws.specs.Symbols.{sym_value, term_written}
 use Rattle.jl_sym_laws.specs.Summaries.{Demand, Left, unit}
-use Rattle.jl_sym_laws.specs.Acting.{played, unmet, state_after, settled, act}
+use Rattle.jl_state.specs.Running.{settled, at_place}
+use Rattle.jl_sym_laws.specs.Acting.{played, unmet, state_after, act}
 use Rattle.jl_sym_laws.specs.Composing.{AreWithin, Timed}
 use Rattle.jl_sym_laws.specs.SmallSteps.{Small, small_step, with_term, tail_demands, term_demands, with_left, left_by, of_term, of_place, of_entry, of_small}
-use Rattle.jl_sym_laws.specs.Runs.{at_place}
 use Rattle.jl_sym_laws.specs.Laws.{SmallStepsSum}
 use Rattle.jl_sym_laws.proofs.Quiet.{no_entry, unit_leaves, term_leaves, entry_leaves}
 use Rattle.jl_sym_laws.proofs.Terms.{fault_of, entry_written_is, made_of, said_of, set_sums}
@@ -113,7 +113,7 @@ small_steps_sum place Small.Closes s = in_graph place s.open_graph (record s { o
 small_steps_sum place (Small.Refuses kind) s = refl
 small_steps_sum place Small.Ends s = ap Ok (unit_leaves s)
 
--- no moment of a small step lies behind its row
+-- no moment of a small step lies after its row
 at_once : (rows : ℕ) → 0 ≤ rows
 at_once rows = omega arith
 

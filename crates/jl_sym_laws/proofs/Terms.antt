@@ -15,9 +15,9 @@ use Rattle.jl_state.specs.Steps.{ids_after, text_at, looked}
 use Rattle.jl_sym_laws.specs.RelativeIds.{Id, real, Refs, real_ids, refs_following, incoming, refs_written, refs_after, entry_written}
 use Rattle.jl_sym_laws.specs.Symbols.{found, tail_value, sym_value, tail_written, term_written}
 use Rattle.jl_sym_laws.specs.Summaries.{Need}
-use Rattle.jl_sym_laws.specs.Acting.{played, unmet, settled}
+use Rattle.jl_state.specs.Running.{settled, at_place}
+use Rattle.jl_sym_laws.specs.Acting.{played, unmet}
 use Rattle.jl_sym_laws.specs.SmallSteps.{demand, tail_demands, term_demands}
-use Rattle.jl_sym_laws.specs.Runs.{at_place}
 use Rattle.jl_sym_laws.proofs.Ids.{real_ids_following}
 use Rattle.jl_sym_laws.proofs.Later.{unmet_both}
 use Rattle.jl_sym_laws.proofs.Quiet.{incoming_is}
@@ -40,7 +40,7 @@ entry_written_is n last = next_one (n == 0) n last
 refs_written_is : (i last : Ids) → real_ids (refs_written i) last ≡ ids_after i last
 refs_written_is i last = λ k. record { prefix = last_again (i.prefix == 0) i.prefix last.prefix (ap (λ (x : Ids). x.prefix) (incoming_is last)) k; name = next_one (i.name == 0) i.name last.name k }
 
-read_ids : (r : Refs) (i last : Ids) → real_ids (refs_following r (refs_written i)) last ≡ ids_after i (real_ids r last)
+pub read_ids : (r : Refs) (i last : Ids) → real_ids (refs_following r (refs_written i)) last ≡ ids_after i (real_ids r last)
 read_ids r i last = real_ids_following r (refs_written i) last ∙ refs_written_is i (real_ids r last)
 
 -- answers that go on, with the fault at its place
@@ -52,7 +52,7 @@ settled_then : {A B : Type 0} (u w : Option Fault) (v : A) (y : B) (f : A → Re
 settled_then None w v y f e = e
 settled_then (Some fault) w v y f e = refl
 
--- a part, and what comes behind it
+-- a part, and what comes after it
 pub goes_on : {A B : Type 0} (place : Place) (x : Result A Kind) (u : Option Fault) (v : A) (f : A → Result B Kind) (w : Option Fault) (y : B)
     → at_place place x ≡ settled u v → at_place place (f v) ≡ settled w y → at_place place (x >>= f) ≡ settled (option_or u w) y
 goes_on {A} {B} place x u v f w y e h =
@@ -109,7 +109,7 @@ tail_sums place s (Ending.Typed id) = datatype_go place (slots_in s Table.Dataty
 abbrev pub said_of : State → Refs → Term → Value × Ids
 said_of s r t = (sym_value (slots_in s) s.ids (term_written r t), real_ids (refs_after t r) s.ids)
 
--- a term that must be set, behind these last ids
+-- a term that must be set, after these last ids
 pub term_sums : (place : Place) (s : State) (r : Refs) (t : Term) → at_place place (looked (slots_in s) (real_ids r s.ids) t) ≡ settled (unmet s [] (term_demands place r t)) (said_of s r t)
 unfolding unmet played
 term_sums place s r Term.Unset = refl

@@ -1,5 +1,5 @@
 -- What a summary does to a state.
-use Rattle.std.specs.Prelude.{ℕ, Bool, false, not, List, [], ◌∷◌, length, slice_set, Option, Some, None, is_some, Result, Ok, Err, nat_lt, if◌then◌else◌}
+use Rattle.std.specs.Prelude.{ℕ, Bool, false, not, List, [], ◌∷◌, length, slice_set, Option, Some, None, is_some, Result, nat_lt, if◌then◌else◌}
 use Rattle.jl_base.specs.Results.{answered}
 use Rattle.jl_base.specs.Terms.{Value}
 use Rattle.jl_base.specs.declared.kind.Kind.{Kind}
@@ -8,6 +8,7 @@ use Rattle.jl_rows.specs.declared.row.Table.{Table}
 use Rattle.jl_rows.specs.Written.{Ids}
 use Rattle.jl_rows.specs.Values.{Slots, filled, prefix_text}
 use Rattle.jl_state.specs.States.{Tables, State, table_of, entry_of, term_of, slots_of_tables}
+use Rattle.jl_state.specs.Running.{settled}
 use Rattle.jl_sym_laws.specs.RelativeIds.{real, real_ids}
 use Rattle.jl_sym_laws.specs.Symbols.{sym_value}
 use Rattle.jl_sym_laws.specs.Summaries.{Written, Kept, Need, Demand, Left, Summary}
@@ -68,7 +69,7 @@ left_after s ws Left.Incoming before = before
 left_after s ws Left.Cleared before = None
 left_after s ws (Left.Set h) before = Some (sym_value (slots_at s ws h.moment) s.ids h.term)
 
--- the state behind the run, where all demands are met
+-- the state after the run, where all demands are met
 abbrev pub state_after : Summary → State → State
 state_after m s = record {
   tables = tables_at s m.writes m.rows;
@@ -83,11 +84,6 @@ state_after m s = record {
   open_graph = left_after s m.writes m.open_graph s.open_graph;
 }
 
--- a fault, or else the answer
-abbrev pub settled : {A : Type 0} → Option Fault → A → Result A Fault
-settled None x = Ok x
-settled (Some fault) x = Err fault
-
--- what a summary does to a state: the first fault, or the state behind the run
+-- what a summary does to a state: the first fault, or the state after the run
 abbrev pub act : Summary → State → Result State Fault
 act m s = settled (unmet s m.writes m.demands) (state_after m s)

@@ -38,7 +38,7 @@ unfoldable pub is_overwritten : Written → ℕ → List Written → Bool
 is_overwritten w moment [] = false
 is_overwritten w moment (v ∷ vs) = (same_address w v && nat_lt v.moment moment) || is_overwritten w moment vs
 
--- what is read at the moment doesn't tell whether the write, with these behind it, was made
+-- what is read at the moment doesn't tell whether the write, with these after it, was made
 abbrev pub is_hidden : Written → List Written → ℕ → Bool
 is_hidden w vs moment = not (nat_lt w.moment moment) || is_overwritten w moment vs
 
@@ -98,7 +98,7 @@ DropsDemand =
     (m : Summary) (ds : List Demand) (d : Demand) (es : List Demand) (s : State) → was_asked d ds ≡ true
     → act (record m { demands = ds ++ (d ∷ es) }) s ≡ act (record m { demands = ds ++ es }) s
 
--- the writes that stay, behind those that were kept before them, and the demands likewise
+-- the writes that stay, after those that were kept before them, and the demands likewise
 unfoldable pub kept_writes : List ℕ → List Written → List Written → List Written
 kept_writes ks us [] = []
 kept_writes ks us (w ∷ ws) = if was_filled w us && is_unseen w ws ks then kept_writes ks us ws else w ∷ kept_writes ks (us ++ (w ∷ [])) ws

@@ -58,7 +58,7 @@ composed a b = record {
   open_graph = left_following a a.open_graph b.open_graph;
 }
 
--- No moment lies behind the run: writes are before its end, and what is read is read at the end at the latest.
+-- No moment lies after the run: writes are before its end, and what is read is read at the end at the latest.
 abbrev pub AreBefore : ℕ → List Written → Type 0
 AreBefore rows [] = Unit {0}
 AreBefore rows (w ∷ ws) = (w.moment < rows) × AreBefore rows ws

@@ -85,7 +85,7 @@ unfoldable pub cut_writes : StreamOptions → List Written → List Written
 cut_writes o [] = []
 cut_writes o (w ∷ ws) = if is_id_in (size_of o w.table) w.id then w ∷ cut_writes o ws else cut_writes o ws
 
--- a demand outside of the tables is never met, and nothing is demanded behind it
+-- a demand outside of the tables is never met, and nothing is demanded after it
 unfoldable pub cut_demands : StreamOptions → List Demand → List Demand
 cut_demands o [] = []
 cut_demands o (d ∷ ds) = if is_need_in o d.need then d ∷ cut_demands o ds else record d { need = Need.Never } ∷ []

@@ -9,15 +9,15 @@ use Rattle.jl_rows.specs.History.{History}
 use Rattle.jl_state.specs.States.{State}
 use Rattle.jl_state.specs.Steps.{step}
 use Rattle.jl_state.specs.Stands.{Stands}
-use Rattle.jl_state.specs.Running.{run_on}
+use Rattle.jl_state.specs.Running.{run_on, at_place, state_of, after_reading}
 use Rattle.jl_sym_laws.specs.Summaries.{Summary, unit}
 use Rattle.jl_sym_laws.specs.Acting.{act}
 use Rattle.jl_sym_laws.specs.Composing.{composed, Timed}
 use Rattle.jl_sym_laws.specs.SmallSteps.{Small, small_step, of_small}
-use Rattle.jl_sym_laws.specs.Runs.{at_place, state_of, behind_on, of_row, never, of_reading, Leads, Summarises, Sums}
+use Rattle.jl_sym_laws.specs.Runs.{of_row, never, of_reading, Leads, Summarises, Sums}
 
 abbrev pub Decodes : Type 0
-Decodes = (o : StreamOptions) (R : Reading Placed Fault) (H : History) (s : State) → Stands o s H → Leads o H R (behind_on o s R)
+Decodes = (o : StreamOptions) (R : Reading Placed Fault) (H : History) (s : State) → Stands o s H → Leads o H R (after_reading o s R)
 
 abbrev pub SmallStepsSum : Type 0
 SmallStepsSum = (place : Place) (x : Small) (s : State) → act (of_small place x) s ≡ at_place place (small_step x s)
@@ -58,8 +58,8 @@ SumsSummarise = (o : StreamOptions) (R : Reading Placed Fault) (m : Summary) →
 abbrev pub JoinedSummarise : Type 0
 JoinedSummarise = (o : StreamOptions) (R Q : Reading Placed Fault) (a b : Summary) → Timed a → Summarises o R a → Summarises o Q b → Summarises o (joined R Q) (composed a b)
 
-abbrev pub BehindIsRun : Type 0
-BehindIsRun = (o : StreamOptions) (s : State) (R : Reading Placed Fault) → (run_on o s R).fault ≡ refused (behind_on o s R)
+abbrev pub AfterIsRun : Type 0
+AfterIsRun = (o : StreamOptions) (s : State) (R : Reading Placed Fault) → (run_on o s R).fault ≡ refused (after_reading o s R)
 
 abbrev pub RowSums : Type 0
 RowSums = (o : StreamOptions) (r : Placed) → Sums o (record { items = r ∷ []; fault = None }) (of_row o r)

@@ -8,5 +8,6 @@ pub mod Runs
 pub mod Compacting
 pub mod Sizes
 pub mod Cutting
+pub mod Staying
 pub mod Laws
 pub mod WorkedRows

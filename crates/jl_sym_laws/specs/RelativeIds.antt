@@ -18,7 +18,7 @@ following first (Id.Given n) = Id.Given n
 following (Id.Given n) (Id.After k) = Id.Given (n + k)
 following (Id.After j) (Id.After k) = Id.After (j + k)
 
--- an IRI by such ids; also the last ids behind it
+-- an IRI by such ids; also the last ids after it
 pub record Refs : Type 0 where
   pub prefix : Id
   pub name : Id
@@ -40,7 +40,7 @@ refs_written i = record {
   name = if i.name == 0 then Id.After 1 else Id.Given i.name;
 }
 
--- the last ids once a term was read behind others
+-- the last ids once a term was read after others
 abbrev pub refs_after : Term → Refs → Refs
 refs_after Term.Unset r = r
 refs_after (Term.Iri i) r = refs_following r (refs_written i)

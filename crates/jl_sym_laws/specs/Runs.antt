@@ -1,38 +1,18 @@
 -- The summary of a run of rows, and what it is to be one.
 use Rattle.std.specs.Prelude.{◌≡◌, List, [], ◌∷◌, Option, Some, None, Result, Ok, Err}
-use Rattle.jl_base.specs.Results.{◌>>=◌, Reading}
-use Rattle.jl_base.specs.declared.kind.Kind.{Kind}
-use Rattle.jl_base.specs.declared.place.Place.{Place}
+use Rattle.jl_base.specs.Results.{Reading}
 use Rattle.jl_base.specs.declared.place.Fault.{Fault}
 use Rattle.jl_rows.specs.Written.{StreamOptions}
 use Rattle.jl_rows.specs.Files.{Placed}
 use Rattle.jl_rows.specs.History.{History}
 use Rattle.jl_rows.specs.Decoder.{decoded_on}
 use Rattle.jl_state.specs.States.{State}
-use Rattle.jl_state.specs.Steps.{Stepped, step}
+use Rattle.jl_state.specs.Running.{after_reading}
 use Rattle.jl_state.specs.Stands.{Stands}
 use Rattle.jl_sym_laws.specs.Summaries.{Need, Summary, unit}
-use Rattle.jl_sym_laws.specs.Acting.{act, settled}
+use Rattle.jl_sym_laws.specs.Acting.{act}
 use Rattle.jl_sym_laws.specs.Composing.{composed}
 use Rattle.jl_sym_laws.specs.SmallSteps.{smalls, of_smalls}
-
--- an answer, or the fault at a place
-abbrev pub at_place : {A : Type 0} → Place → Result A Kind → Result A Fault
-at_place place (Ok x) = Ok x
-at_place place (Err kind) = Err (record { place = place; kind = kind })
-
--- the state behind a step, where what it states is left aside
-abbrev pub state_of : Stepped → Result State Kind
-state_of (Ok next) = Ok next.0
-state_of (Err kind) = Err kind
-
--- the state behind rows, one decoder's steps after another, or their first fault
-unfoldable pub behind : StreamOptions → State → List Placed → Option Fault → Result State Fault
-behind o s [] fault = settled fault s
-behind o s (r ∷ rs) fault = at_place r.place (state_of (step o r.row s)) >>= λ t. behind o t rs fault
-
-abbrev pub behind_on : StreamOptions → State → Reading Placed Fault → Result State Fault
-behind_on o s R = behind o s R.items R.fault
 
 -- a history, and rows after it
 unfoldable pub history_after : List Placed → History → History
@@ -70,4 +50,4 @@ Summarises o R m = (H : History) (s : State) → Stands o s H → Leads o H R (a
 
 -- on whatever state, it does what the decoder's steps do
 abbrev pub Sums : StreamOptions → Reading Placed Fault → Summary → Type 0
-Sums o R m = (s : State) → act m s ≡ behind_on o s R
+Sums o R m = (s : State) → act m s ≡ after_reading o s R

@@ -7,7 +7,7 @@ use Rattle.jl_sym_laws.specs.RelativeIds.{Id}
 use Rattle.jl_sym_laws.specs.Summaries.{Written, Kept, Need, Demand, Summary}
 use Rattle.jl_sym_laws.specs.Compacting.{compacted}
 
--- an id that is a slot of a table of this size, or at most so far behind the incoming last one
+-- an id that is a slot of a table of this size, or at most so far after the incoming last one
 abbrev pub IsIdIn : ℕ → Id → Type 0
 IsIdIn size (Id.Given n) = (0 < n) × (n ≤ size)
 IsIdIn size (Id.After k) = (0 < k) × (k ≤ size)

@@ -78,7 +78,7 @@ tail_demands place Ending.Simple = []
 tail_demands place (Ending.Lang tag) = if is_tag tag then [] else demand place BadLangtag Need.Never ∷ []
 tail_demands place (Ending.Typed id) = demand place NoEntry (Need.Filled Table.Datatype (Id.Given id)) ∷ []
 
--- what a term that must be set demands, behind these last ids
+-- what a term that must be set demands, after these last ids
 abbrev pub term_demands : Place → Refs → Term → List Demand
 term_demands place r Term.Unset = demand place NoTerm Need.Never ∷ []
 term_demands place r (Term.Iri i) = text_demands place (refs_following r (refs_written i))
@@ -100,7 +100,7 @@ with_left Position.Predicate l m = record m { predicate = l }
 with_left Position.Object l m = record m { object = l }
 with_left Position.Graph l m = record m { graph = l }
 
--- a term that a row sets: what it demands, the last ids behind it, and what it leaves
+-- a term that a row sets: what it demands, the last ids after it, and what it leaves
 abbrev pub left_by : Term → Left
 left_by t = Left.Set (record { moment = 0; term = term_written incoming t })
 

@@ -52,7 +52,7 @@ tail_written Ending.Simple = SymTail.Simple
 tail_written (Ending.Lang tag) = SymTail.Lang tag
 tail_written (Ending.Typed id) = SymTail.Typed id
 
--- A term as it is written, behind these last ids. One that isn't set, or may not stand where it does, has no meaning, and
+-- A term as it is written, after these last ids. One that isn't set, or may not stand where it does, has no meaning, and
 -- asking for it is refused.
 abbrev pub term_written : Refs → Term → SymTerm
 term_written r Term.Unset = SymTerm.Default

@@ -73,13 +73,13 @@ three = frame 1 2 (name 0 x ∷ name 3 y ∷ name 0 z ∷ [])
 abbrev pub ThreeAtOpening : Type 0
 ThreeAtOpening = act three start ≡ Ok (with_names (None ∷ Some x ∷ None ∷ Some y ∷ Some z ∷ None ∷ None ∷ None ∷ None ∷ []) 4)
 
--- behind an entry of id 2 it gets id 3, which the second one takes from it
+-- after an entry of id 2 it gets id 3, which the second one takes from it
 abbrev pub ThreeAfterTwo : Type 0
 ThreeAfterTwo =
     act three (with_names (None ∷ None ∷ Some a ∷ None ∷ None ∷ None ∷ None ∷ None ∷ None ∷ []) 2)
     ≡ Ok (with_names (None ∷ None ∷ Some a ∷ Some y ∷ Some z ∷ None ∷ None ∷ None ∷ None ∷ []) 4)
 
--- behind one of id 8 it has no slot
+-- after one of id 8 it has no slot
 abbrev pub ThreeAfterEight : Type 0
 ThreeAfterEight = act three (with_names (None ∷ None ∷ None ∷ None ∷ None ∷ None ∷ None ∷ None ∷ Some a ∷ []) 8) ≡ Err (fault_at 2 1 BadEntry)
 
@@ -95,8 +95,8 @@ repeats = composed (frame 1 1 (Row.Triple Term.Unset Term.Unset Term.Unset ∷ [
 abbrev pub NothingToRepeat : Type 0
 NothingToRepeat = act repeats start ≡ Err (fault_at 1 1 NoTerm)
 
-abbrev pub WrongRowBehind : Type 0
-WrongRowBehind = act repeats (record start { subject = Some (Value.Bnode a); predicate = Some (Value.Iri a); object = Some (Value.Iri b) }) ≡ Err (fault_at 2 1 WrongRow)
+abbrev pub WrongRowAfter : Type 0
+WrongRowAfter = act repeats (record start { subject = Some (Value.Bnode a); predicate = Some (Value.Iri a); object = Some (Value.Iri b) }) ≡ Err (fault_at 2 1 WrongRow)
 
 -- A term keeps the text of the row that set it: a slot is written again in frame 2, and frame 3 repeats subject and
 -- predicate.
@@ -124,7 +124,7 @@ PreviousPrefixAfterRewrite =
       object = Some (Value.Iri (u ++ a));
     })
 
--- a triple behind the end of its graph, each row in a frame of its own
+-- a triple after the end of its graph, each row in a frame of its own
 abbrev pub TripleAfterGraphEnd : Type 0
 TripleAfterGraphEnd =
     act (composed (composed (frame 3 1 (name 0 a ∷ Row.GraphStart (iri 0 1) ∷ [])) (frame 3 2 (Row.Triple (iri 0 1) (iri 0 1) (iri 0 1) ∷ [])))

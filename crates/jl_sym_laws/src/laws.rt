@@ -1,16 +1,17 @@
 //! What holds of summaries, for all of them: laws, each the contract of a function that does nothing.
 ghost use Rattle.jl_sym_laws.specs.Cutting.{MadeStays, ReadingsMade, StandsSized, CutKeeps, CutIsIn, FittedSummarises, FittedIsSmall, FittedIsMade};
-ghost use Rattle.jl_sym_laws.specs.Laws.{Decodes, BehindIsRun, SmallStepsSum, RowsSum, Composes, StaysTimed, UnitDoesNothing, UnitBefore, UnitAfter, GroupsAlike, ReadingsSum, ReadingsTimed, JoinedSum, RowSums, FaultSums, SumsSummarise, JoinedSummarise};
+ghost use Rattle.jl_sym_laws.specs.Laws.{Decodes, AfterIsRun, SmallStepsSum, RowsSum, Composes, StaysTimed, UnitDoesNothing, UnitBefore, UnitAfter, GroupsAlike, ReadingsSum, ReadingsTimed, JoinedSum, RowSums, FaultSums, SumsSummarise, JoinedSummarise};
 ghost use Rattle.jl_sym_laws.specs.Compacting.{SlotIsLastWrite, DropsWrite, DropsDemand, CompactingKeeps};
 ghost use Rattle.jl_sym_laws.specs.Sizes.{CompactedFits};
-ghost use Rattle.jl_sym_laws.specs.WorkedRows.{ThreeAtOpening, ThreeAfterTwo, ThreeAfterEight, ImpliedIdsAcrossRuns, NothingToRepeat, WrongRowBehind, RepeatedTermKeepsItsText, PreviousPrefixAfterRewrite, TripleAfterGraphEnd, NestedTermWithoutEntry};
+ghost use Rattle.jl_sym_laws.specs.Staying.{OpeningSettled, RowsSettle, SumsSettle};
+ghost use Rattle.jl_sym_laws.specs.WorkedRows.{ThreeAtOpening, ThreeAfterTwo, ThreeAfterEight, ImpliedIdsAcrossRuns, NothingToRepeat, WrongRowAfter, RepeatedTermKeepsItsText, PreviousPrefixAfterRewrite, TripleAfterGraphEnd, NestedTermWithoutEntry};
 
 /// From a state that stands for a history, the decoder's steps over further rows lead to what the definitions say of
 /// these rows after that history: the first fault at its place, or a state that stands for the longer history. Items
 /// aside, these are the steps of the decoder's own run.
 pub fn decodes()
     ensures leads { Decodes }
-    ensures run { BehindIsRun }
+    ensures run { AfterIsRun }
 {}
 
 /// On every state, the summary of a small step does what the step does, and the summary of a row what the decoder's
@@ -21,13 +22,13 @@ pub fn steps_sum()
 {}
 
 /// On every state, two summaries composed do what the first does and then the second, first faults included. What is
-/// asked of the first, that none of its moments lies behind its rows, holds again of the composed one.
+/// asked of the first, that none of its moments lies after its rows, holds again of the composed one.
 pub fn composes()
     ensures acts { Composes }
     ensures timed { StaysTimed }
 {}
 
-/// The summary of no rows does nothing, also in front of another one and behind it.
+/// The summary of no rows does nothing, also in front of another one and after it.
 pub fn unit_is_neutral()
     ensures alone { UnitDoesNothing }
     ensures before { UnitBefore }
@@ -79,7 +80,7 @@ pub fn compacting_keeps()
     ensures size { CompactedFits }
 {}
 
-/// What summaries of rows keep: moments that don't fall and don't lie behind the rows, and ids that count from 1. It holds
+/// What summaries of rows keep: moments that don't fall and don't lie after the rows, and ids that count from 1. It holds
 /// of the summary of any reading, again when two are composed, and when one is cut and compacted.
 pub fn summaries_of_rows()
     ensures reading { ReadingsMade }
@@ -103,6 +104,14 @@ pub fn summaries_stay_small()
     ensures size { FittedIsSmall }
 {}
 
+/// Last ids are those of slots, or 0, in tables of the options' sizes. It holds of the opening state, and again after any
+/// rows without a fault; so it does after a summary that acts as the steps over some rows.
+pub fn ids_settle()
+    ensures opening { OpeningSettled }
+    ensures rows { RowsSettle }
+    ensures summary { SumsSettle }
+{}
+
 /// Runs of rows and what their summaries do to states, worked by hand: ids left out, terms and prefixes that were set
 /// in an earlier run, graphs, triple terms, and the first fault of each of several kinds.
 pub fn worked_rows()
@@ -111,7 +120,7 @@ pub fn worked_rows()
     ensures three_after_eight { ThreeAfterEight }
     ensures implied_ids_across_runs { ImpliedIdsAcrossRuns }
     ensures nothing_to_repeat { NothingToRepeat }
-    ensures wrong_row_behind { WrongRowBehind }
+    ensures wrong_row_after { WrongRowAfter }
     ensures repeated_term_keeps_its_text { RepeatedTermKeepsItsText }
     ensures previous_prefix_after_rewrite { PreviousPrefixAfterRewrite }
     ensures triple_after_graph_end { TripleAfterGraphEnd }

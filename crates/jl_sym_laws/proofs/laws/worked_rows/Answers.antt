@@ -1,4 +1,4 @@
-use Rattle.jl_sym_laws.proofs.RowsWorked.{three_at_opening, three_after_two, three_after_eight, implied_ids_across_runs, nothing_to_repeat, wrong_row_behind, repeated_term_keeps_its_text, previous_prefix_after_rewrite, triple_after_graph_end, nested_term_without_entry}
+use Rattle.jl_sym_laws.proofs.RowsWorked.{three_at_opening, three_after_two, three_after_eight, implied_ids_across_runs, nothing_to_repeat, wrong_row_after, repeated_term_keeps_its_text, previous_prefix_after_rewrite, triple_after_graph_end, nested_term_without_entry}
 use Rattle.jl_sym_laws.proofs.laws.worked_rows.Goals as goal
 
 pub returns-clause-three_at_opening : goal.returns-clause-three_at_opening
@@ -16,8 +16,8 @@ returns-clause-implied_ids_across_runs c = implied_ids_across_runs
 pub returns-clause-nothing_to_repeat : goal.returns-clause-nothing_to_repeat
 returns-clause-nothing_to_repeat c = nothing_to_repeat
 
-pub returns-clause-wrong_row_behind : goal.returns-clause-wrong_row_behind
-returns-clause-wrong_row_behind c = wrong_row_behind
+pub returns-clause-wrong_row_after : goal.returns-clause-wrong_row_after
+returns-clause-wrong_row_after c = wrong_row_after
 
 pub returns-clause-repeated_term_keeps_its_text : goal.returns-clause-repeated_term_keeps_its_text
 returns-clause-repeated_term_keeps_its_text c = repeated_term_keeps_its_text

@@ -10,7 +10,8 @@ use Rattle.jl_state.specs.States.{State, table_of}
 use Rattle.jl_state.specs.declared.stop.Stop.{Stop}
 use Rattle.jl_state.specs.declared.stop.Stop.TheVariants as stops
 use Rattle.jl_sym_laws.specs.Summaries.{Written, Need, Demand, Summary, unit}
-use Rattle.jl_sym_laws.specs.Acting.{unmet, settled, act, state_after}
+use Rattle.jl_state.specs.Running.{settled}
+use Rattle.jl_sym_laws.specs.Acting.{unmet, act, state_after}
 use Rattle.jl_sym_laws.specs.Composing.{AreWithin}
 use Rattle.jl_sym_laws.specs.SmallSteps.{demand, term_demands}
 use Rattle.jl_sym_laws.specs.Cutting.{IsMadeNeed, AreMadeDemands, IsMade, Sized, is_id_in, is_need_in, cut_demands, cut}

@@ -12,8 +12,10 @@ use Rattle.jl_rows.specs.Decoder.{size_of, most_entries}
 use Rattle.jl_rows.specs.Heads.{ArePassed}
 use Rattle.jl_rows.specs.Seen.{options_seen}
 use Rattle.jl_rows.specs.declared.options.Options.{Options}
-use Rattle.jl_base.specs.Spans.{IsInside, text_of}
+use Rattle.jl_base.specs.Spans.{text_of}
 use Rattle.jl_base.specs.declared.place.Span.{Span}
+use Rattle.jl_state.specs.declared.extent.Extent.{Extent}
+use Rattle.jl_state.specs.Extents.{text_in, IsFilled, IsSound}
 use Rattle.jl_state.specs.States.{State}
 use Rattle.jl_state.specs.Steps.{step}
 use Rattle.jl_state.specs.declared.stop.Stop.TheVariants as stops
@@ -23,7 +25,7 @@ use Rattle.jl_sym_laws.specs.Acting.{unmet}
 use Rattle.jl_sym_laws.specs.Composing.{AreBefore}
 use Rattle.jl_sym_laws.specs.SmallSteps.{Small, demand, small_step, with_entry}
 use Rattle.jl_sym_laws.specs.Cutting.{IsNext, AreMadeWrites, IsMade, is_id_in}
-use Rattle.jl_sym_laws.specs.Runs.{state_of}
+use Rattle.jl_state.specs.Running.{state_of}
 use Rattle.jl_sym_laws.proofs.RowLaws.{all_steps}
 use Rattle.jl_sym.specs.declared.relative_id.RelativeId.{RelativeId}
 use Rattle.jl_sym.specs.declared.relative_id.RelativeId.TheVariants as relatives
@@ -32,7 +34,7 @@ use Rattle.jl_sym.specs.declared.summary.Write.{Write}
 use Rattle.jl_sym.specs.declared.demand.Demand as code_demand
 use Rattle.jl_sym.specs.declared.marks.Marks.{Marks}
 use Rattle.jl_sym.specs.Seen.{id_seen, write_seen, demands_seen, growing_seen, IsSmall}
-use Rattle.jl_sym.specs.Held.{AreInside}
+use Rattle.jl_sym.specs.Held.{AreTexts}
 use Rattle.jl_sym.specs.Growth.{IsFit, last_entry, with_last_entry}
 use Rattle.jl_sym.specs.Marking.{AreGood, AreMarked}
 use Rattle.jl_sym.specs.Asking.{moved, AreOfRun, Asks, Grows}
@@ -140,9 +142,9 @@ module _ (o : StreamOptions) (m : Summary) (place : Place) (t : Table) (n : ℕ)
       by Table.Prefix = record { timed = record { writes = more.timed.writes; demands = more.timed.demands; subject = more.timed.subject; predicate = more.timed.predicate; object = more.timed.object; graph = more.timed.graph; open_graph = more.timed.open_graph }; writes = more.writes; demands = more.demands; prefix = more.prefix }
       by Table.Datatype = record { timed = record { writes = more.timed.writes; demands = more.timed.demands; subject = more.timed.subject; predicate = more.timed.predicate; object = more.timed.object; graph = more.timed.graph; open_graph = more.timed.open_graph }; writes = more.writes; demands = more.demands; prefix = more.prefix }
 
-pub inside_push : (bytes : List ℕ) (ws : List Write) (w : Write) → AreInside bytes ws → IsInside bytes w.text → AreInside bytes (ws ++ w ∷ [])
-inside_push bytes [] w all here = (here, tt)
-inside_push bytes (v ∷ ws) w all here = (all.0, inside_push bytes ws w all.1 here)
+pub texts_push : (bytes : List ℕ) (ws : List Write) (w : Write) → AreTexts bytes ws → IsSound bytes w.text → IsFilled w.text → AreTexts bytes (ws ++ w ∷ [])
+texts_push bytes [] w all sound filled = (sound, filled, tt)
+texts_push bytes (v ∷ ws) w all sound filled = (all.0, all.1, texts_push bytes ws w all.2 sound filled)
 
 -- the code's summary with an entry
 pub entry_seen : (bytes : List ℕ) (m : Growing) (t : Table) (id : RelativeId)
@@ -178,20 +180,21 @@ small_sizes bytes options Table.Prefix passed = passed.prefixes
 small_sizes bytes options Table.Datatype passed = passed.datatypes
 
 -- the code's summary after an entry
-module _ (bytes : List ℕ) (old : Growing) (demands : Vec code_demand.Demand Global) (writes : Vec Write Global) (t : Table) (n : ℕ) (text : Span) (idc : RelativeId) (S : Growing)
+module _ (bytes : List ℕ) (old : Growing) (demands : Vec code_demand.Demand Global) (writes : Vec Write Global) (t : Table) (n : ℕ) (text : Span) (extent : Extent) (idc : RelativeId) (S : Growing)
     (is : S ≡ with_last_entry t idc (record old { demands = demands; writes = writes })) where
   pub entry_done : (o : StreamOptions) (place : Place) (made : IsMade (growing_seen bytes old)) → id_seen idc ≡ following (entry_in (growing_seen bytes old) t) (entry_written n)
-      → writes.items ≡ old.writes.items ++ record { moment = old.rows; table = t; id = idc; text = text } ∷ []
+      → text_in bytes extent ≡ text_of bytes text
+      → writes.items ≡ old.writes.items ++ record { moment = old.rows; table = t; id = idc; text = extent } ∷ []
       → growing_seen bytes (record S { rows = S.rows + 1 }) ≡ with_it o (growing_seen bytes old) place t n (text_of bytes text) made (demands_seen demands.items)
-  entry_done o place made same pushed =
+  entry_done o place made same marked pushed =
       let m : Summary = growing_seen bytes old in
       let ws : map (write_seen bytes) writes.items ≡ m.writes ++ record { moment = m.rows; table = t; id = following (entry_in m t) (entry_written n); text = text_of bytes text } ∷ []
-      = ap (map (write_seen bytes)) pushed ∙ map-snoc (write_seen bytes) old.writes.items _ ∙ ap (λ (i : Id). m.writes ++ record { moment = m.rows; table = t; id = i; text = text_of bytes text } ∷ []) same in
+      = ap (map (write_seen bytes)) pushed ∙ map-snoc (write_seen bytes) old.writes.items _ ∙ (λ i. m.writes ++ record { moment = m.rows; table = t; id = same i; text = marked i } ∷ []) in
       ap (λ (x : Growing). growing_seen bytes (record x { rows = x.rows + 1 })) is
       ∙ entry_seen bytes (record old { demands = demands; writes = writes }) t idc
       ∙ (λ i. with_entry t (same i) (record m { rows = m.rows + 1; writes = ws i; demands = demands_seen demands.items }))
 
-  pub entry_fit : (marks marks' : Marks) → IsSmall idc → IsFit bytes old marks → AreMarked old.rows (demands_seen demands.items) marks' → AreInside bytes writes.items → IsMade (growing_seen bytes (record S { rows = S.rows + 1 })) → IsFit bytes (record S { rows = S.rows + 1 }) marks'
+  pub entry_fit : (marks marks' : Marks) → IsSmall idc → IsFit bytes old marks → AreMarked old.rows (demands_seen demands.items) marks' → AreTexts bytes writes.items → IsMade (growing_seen bytes (record S { rows = S.rows + 1 })) → IsFit bytes (record S { rows = S.rows + 1 }) marks'
   entry_fit marks marks' small fit marked inside = subst (λ (x : Growing). IsMade (growing_seen bytes (record x { rows = x.rows + 1 })) → IsFit bytes (record x { rows = x.rows + 1 }) marks') (sym is) (by t)
     where
       by : (u : Table) → IsMade (growing_seen bytes (record (with_last_entry u idc (record old { demands = demands; writes = writes })) { rows = (with_last_entry u idc (record old { demands = demands; writes = writes })).rows + 1 }))

@@ -7,7 +7,7 @@ use Rattle.jl_sym_laws.specs.RelativeIds as ids
 use Rattle.jl_sym_laws.specs.Summaries.{Kept, Left, Need, unit}
 use Rattle.jl_sym_laws.specs.Cutting.{IsMade}
 use Rattle.jl_sym_laws.specs.Composing.{IsLeftWithin}
-use Rattle.jl_sym.specs.declared.relative_id.Refs.{Refs}
+use Rattle.jl_sym.specs.declared.id_word.RefWords.{RefWords}
 use Rattle.jl_sym.specs.declared.demand.Demand as code
 use Rattle.jl_sym.specs.declared.growing.Last.{Last}
 use Rattle.jl_sym.specs.declared.growing.Growing.{Growing}
@@ -68,7 +68,7 @@ module _ (bytes : List ℕ) (old : Growing) (marks marks' : Marks) (fit : IsFit 
   held_at (Kept.LastAt Position.Graph) = fit.held.graph
   held_at Kept.OpenGraph = fit.held.open_graph
 
-  module _ (x : Kept) (left : Last) (r : Refs) where
+  module _ (x : Kept) (left : Last) (r : RefWords) where
     last_kept : (result : Result (Unit {0}) Stop) → OnOk result (HasLast r) → OnErr result ((r ≡ old.ids) × (left ≡ last_at x old)) → HasLast r
     last_kept (Ok _) has same = has
     last_kept (Err stop) has same = subst HasLast (sym same.0) (record { name = fit.name; prefix = fit.made.prefix })
@@ -81,7 +81,7 @@ module _ (bytes : List ℕ) (old : Growing) (marks marks' : Marks) (fit : IsFit 
     held_kept (Ok _) held same = held
     held_kept (Err stop) held same = subst (HasKept bytes) (sym same.1) (held_at x)
 
-  module _ (demands : Vec code.Demand Global) (r : Refs) (left : Last) (asked : AreAsked old.rows (demands_seen demands.items) marks') (last : HasLast r) (within : IsLeftWithin old.rows (last_seen bytes left)) (held : HasKept bytes left) where
+  module _ (demands : Vec code.Demand Global) (r : RefWords) (left : Last) (asked : AreAsked old.rows (demands_seen demands.items) marks') (last : HasLast r) (within : IsLeftWithin old.rows (last_seen bytes left)) (held : HasKept bytes left) where
     fit_subject : IsFit bytes (with_last (Kept.LastAt Position.Subject) left (record old { demands = demands; ids = r })) marks'
     fit_subject = record {
       made = record {
@@ -170,7 +170,7 @@ module _ (bytes : List ℕ) (old : Growing) (marks marks' : Marks) (fit : IsFit 
     fit_with Kept.OpenGraph = fit_open_graph
 
   -- a thing that is kept was set, or the row is refused
-  pub fit_kept : (x : Kept) (left : Last) (demands : Vec code.Demand Global) (r : Refs) (result : Result (Unit {0}) Stop) (after : Left) → IsLeftWithin old.rows after → AreAsked old.rows (demands_seen demands.items) marks' → OnOk result (HasLast r)
+  pub fit_kept : (x : Kept) (left : Last) (demands : Vec code.Demand Global) (r : RefWords) (result : Result (Unit {0}) Stop) (after : Left) → IsLeftWithin old.rows after → AreAsked old.rows (demands_seen demands.items) marks' → OnOk result (HasLast r)
       → OnOk result (HasKept bytes left) → OnErr result ((r ≡ old.ids) × (left ≡ last_at x old)) → OnOk result (last_seen bytes left ≡ after) → IsFit bytes (with_last x left (record old { demands = demands; ids = r })) marks'
   fit_kept x left demands r result after within asked has held same is =
       fit_with demands r left asked (last_kept x left r result has same) (left_kept x left r result after within same is) (held_kept x left r result held same) x

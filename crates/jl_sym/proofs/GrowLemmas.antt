@@ -13,11 +13,11 @@ use Rattle.jl_state.specs.declared.stop.Stop.{Stop}
 use Rattle.jl_state.specs.declared.stop.Stop.TheVariants as stops
 use Rattle.jl_sym_laws.specs.RelativeIds.{Refs, refs_after}
 use Rattle.jl_sym_laws.specs.Summaries.{Written, Demand, Kept, Left, Summary, left_in}
-use Rattle.jl_sym_laws.specs.Acting.{unmet, settled, act, state_after}
+use Rattle.jl_state.specs.Running.{settled, at_place}
+use Rattle.jl_sym_laws.specs.Acting.{unmet, act, state_after}
 use Rattle.jl_sym_laws.specs.Composing.{composed, AreBefore, AreWithin, IsLeftWithin, Timed, has_left, lacks_left}
 use Rattle.jl_sym_laws.specs.SmallSteps.{Small, small_step, term_demands, with_left, of_small}
 use Rattle.jl_sym_laws.specs.Cutting.{IsMade, Sized}
-use Rattle.jl_sym_laws.specs.Runs.{at_place}
 use Rattle.jl_sym_laws.proofs.Composition.{composes}
 use Rattle.jl_sym_laws.proofs.Later.{unmet_both, unmet_earlier}
 use Rattle.jl_sym_laws.proofs.SmallLaws.{small_steps_sum}
@@ -25,17 +25,17 @@ use Rattle.jl_sym.specs.Asking.{moved, AreOfRun, never_at, Asks, Grows, perhaps,
 use Rattle.jl_sym.specs.Lays.{laid, set_left}
 use Rattle.jl_sym.proofs.Composed.{asking, composed_place, composed_reads, composed_in_graph, composed_opens, composed_closes, composed_ends}
 
-abbrev pub Behind : Type 0
-Behind = Result State Fault
+abbrev pub Led : Type 0
+Led = Result State Fault
 
-abbrev pub stop_at : Place → Kind → State → Behind
+abbrev pub stop_at : Place → Kind → State → Led
 stop_at place kind t = Err (record { place = place; kind = kind })
 
-pub bind_assoc : (r : Behind) (f g : State → Behind) → ((r >>= f) >>= g) ≡ (r >>= λ t. f t >>= g)
+pub bind_assoc : (r : Led) (f g : State → Led) → ((r >>= f) >>= g) ≡ (r >>= λ t. f t >>= g)
 bind_assoc (Ok t) f g = refl
 bind_assoc (Err e) f g = refl
 
-pub bind_ext : (r : Behind) (f g : State → Behind) → ((t : State) → f t ≡ g t) → (r >>= f) ≡ (r >>= g)
+pub bind_ext : (r : Led) (f g : State → Led) → ((t : State) → f t ≡ g t) → (r >>= f) ≡ (r >>= g)
 bind_ext (Ok t) f g h = h t
 bind_ext (Err e) f g h = refl
 
@@ -51,17 +51,17 @@ module _ (o : StreamOptions) (place : Place) (f g : State → Result State Kind)
       ∙ bind_ext (act old s) (λ t. at_place place (f t) >>= λ u. at_place place (g u)) (λ t. at_place place (f t >>= g)) (λ t. sym (at_then place (f t) g))
 
   pub grows_then : (mid new : Summary) (result : Result (Unit {0}) Stop) → Grows o place f old mid (Ok tt) → Grows o place g mid new result → Grows o place (λ t. f t >>= g) old new result
-  grows_then mid new (Ok _) first second = λ s sized. second s sized ∙ ap (λ (r : Behind). r >>= λ t. at_place place (g t)) (first s sized) ∙ both_steps s
-  grows_then mid new (Err (stops.Fault kind)) first second = λ s sized. second s sized ∙ ap (λ (r : Behind). r >>= λ t. at_place place (g t)) (first s sized) ∙ both_steps s
+  grows_then mid new (Ok _) first second = λ s sized. second s sized ∙ ap (λ (r : Led). r >>= λ t. at_place place (g t)) (first s sized) ∙ both_steps s
+  grows_then mid new (Err (stops.Fault kind)) first second = λ s sized. second s sized ∙ ap (λ (r : Led). r >>= λ t. at_place place (g t)) (first s sized) ∙ both_steps s
   grows_then mid new (Err stops.NoMemory) first second = tt
 
-  ended : (r : Behind) (kind : Kind) → ((r >>= stop_at place kind) >>= λ t. at_place place (g t)) ≡ (r >>= stop_at place kind)
+  ended : (r : Led) (kind : Kind) → ((r >>= stop_at place kind) >>= λ t. at_place place (g t)) ≡ (r >>= stop_at place kind)
   ended (Ok t) kind = refl
   ended (Err e) kind = refl
 
   -- nothing comes after a certain fault
   pub grows_stopped : (new : Summary) (stop : Stop) → Grows o place f old new (Err stop) → Grows o place (λ t. f t >>= g) old new (Err stop)
-  grows_stopped new (stops.Fault kind) first = λ s sized. sym (ended (act new s) kind) ∙ ap (λ (r : Behind). r >>= λ t. at_place place (g t)) (first s sized) ∙ both_steps s
+  grows_stopped new (stops.Fault kind) first = λ s sized. sym (ended (act new s) kind) ∙ ap (λ (r : Led). r >>= λ t. at_place place (g t)) (first s sized) ∙ both_steps s
   grows_stopped new stops.NoMemory first = tt
 
 -- a small step, once its demands are asked

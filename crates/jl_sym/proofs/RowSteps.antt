@@ -8,7 +8,7 @@ use Rattle.jl_state.specs.States.{State}
 use Rattle.jl_state.specs.Steps.{step}
 use Rattle.jl_state.specs.Positions.{under}
 use Rattle.jl_sym_laws.specs.SmallSteps.{Small, smalls_of}
-use Rattle.jl_sym_laws.specs.Runs.{state_of}
+use Rattle.jl_state.specs.Running.{state_of}
 use Rattle.jl_sym_laws.proofs.RowLaws.{all_steps, step_is, three}
 use Rattle.jl_sym.specs.Checked.{checked}
 use Rattle.jl_sym.specs.RowSteps.{three_on, inside_on, four_on, start_on, end_on, namespace_on}

@@ -14,9 +14,10 @@ use Rattle.jl_state.specs.States.{State}
 use Rattle.jl_state.specs.Steps.{step}
 use Rattle.jl_state.specs.declared.stop.Stop.TheVariants as stops
 use Rattle.jl_sym_laws.specs.Summaries.{Need, Summary}
-use Rattle.jl_sym_laws.specs.Acting.{unmet, settled, act, state_after}
+use Rattle.jl_state.specs.Running.{settled, at_place, state_of, after_rows}
+use Rattle.jl_sym_laws.specs.Acting.{unmet, act, state_after}
 use Rattle.jl_sym_laws.specs.Cutting.{Sized}
-use Rattle.jl_sym_laws.specs.Runs.{at_place, state_of, behind, Leads, Summarises}
+use Rattle.jl_sym_laws.specs.Runs.{Leads, Summarises}
 use Rattle.jl_sym_laws.proofs.Cuts.{stands_sized}
 use Rattle.jl_sym_laws.proofs.DecodeLaws.{decodes}
 use Rattle.jl_sym_laws.proofs.Later.{unmet_both}
@@ -26,23 +27,23 @@ use Rattle.jl_sym_laws.proofs.RowLaws.{unit_acts}
 use Rattle.jl_sym.proofs.AskLemmas.{good_push}
 use Rattle.jl_sym.specs.Asking.{Grows}
 use Rattle.jl_sym.specs.Growth.{with_never}
-use Rattle.jl_sym.proofs.GrowLemmas.{Behind, stop_at, bind_assoc, bind_ext}
+use Rattle.jl_sym.proofs.GrowLemmas.{Led, stop_at, bind_assoc, bind_ext}
 
 -- on the states of a file it does what the decoder's steps do
 abbrev pub SumsRows : StreamOptions → List Placed → Option Fault → Summary → Type 0
-SumsRows o rs fault m = (s : State) → Sized o s → act m s ≡ behind o s rs fault
+SumsRows o rs fault m = (s : State) → Sized o s → act m s ≡ after_rows o s rs fault
 
 pub sums_on_summarise : (o : StreamOptions) (R : Reading Placed Fault) (m : Summary) → SumsRows o R.items R.fault m → Summarises o R m
 sums_on_summarise o R m h H s stands = subst (Leads o H R) (sym (h s (stands_sized o s H stands))) (decodes o R H s stands)
 
-pub behind_both : (o : StreamOptions) (s : State) (xs ys : List Placed) (fault : Option Fault) → behind o s (xs ++ ys) fault ≡ (behind o s xs None >>= λ t. behind o t ys fault)
-unfolding behind
-behind_both o s [] ys fault = refl
-behind_both o s (r ∷ rs) ys fault =
-    bind_ext (at_place r.place (state_of (step o r.row s))) (λ t. behind o t (rs ++ ys) fault) (λ t. behind o t rs None >>= λ u. behind o u ys fault) (λ t. behind_both o t rs ys fault)
-    ∙ sym (bind_assoc (at_place r.place (state_of (step o r.row s))) (λ t. behind o t rs None) (λ u. behind o u ys fault))
+pub after_both : (o : StreamOptions) (s : State) (xs ys : List Placed) (fault : Option Fault) → after_rows o s (xs ++ ys) fault ≡ (after_rows o s xs None >>= λ t. after_rows o t ys fault)
+unfolding after_rows
+after_both o s [] ys fault = refl
+after_both o s (r ∷ rs) ys fault =
+    bind_ext (at_place r.place (state_of (step o r.row s))) (λ t. after_rows o t (rs ++ ys) fault) (λ t. after_rows o t rs None >>= λ u. after_rows o u ys fault) (λ t. after_both o t rs ys fault)
+    ∙ sym (bind_assoc (at_place r.place (state_of (step o r.row s))) (λ t. after_rows o t rs None) (λ u. after_rows o u ys fault))
 
-bind_ok : (r : Behind) → (r >>= λ t. Ok t) ≡ r
+bind_ok : (r : Led) → (r >>= λ t. Ok t) ≡ r
 bind_ok (Ok t) = refl
 bind_ok (Err e) = refl
 
@@ -51,54 +52,54 @@ row_step o r t = state_of (step o r.row t)
 
 -- one row more
 pub sums_next : (o : StreamOptions) (rs : List Placed) (r : Placed) (m m' : Summary) → SumsRows o rs None m → Grows o r.place (row_step o r) m m' (Ok tt) → SumsRows o (rs ++ r ∷ []) None m'
-unfolding behind
+unfolding after_rows
 sums_next o rs r m m' so_far grew s sized =
     grew s sized
-    ∙ ap (λ (x : Behind). x >>= λ t. at_place r.place (row_step o r t)) (so_far s sized)
-    ∙ bind_ext (behind o s rs None) (λ t. at_place r.place (row_step o r t)) (λ t. behind o t (r ∷ []) None) (λ t. sym (bind_ok (at_place r.place (row_step o r t))))
-    ∙ sym (behind_both o s rs (r ∷ []) None)
+    ∙ ap (λ (x : Led). x >>= λ t. at_place r.place (row_step o r t)) (so_far s sized)
+    ∙ bind_ext (after_rows o s rs None) (λ t. at_place r.place (row_step o r t)) (λ t. after_rows o t (r ∷ []) None) (λ t. sym (bind_ok (at_place r.place (row_step o r t))))
+    ∙ sym (after_both o s rs (r ∷ []) None)
 
 -- a certain fault after it
-fails : (u : Option Fault) (fault : Fault) (t v : State) → settled (option_or u (Some fault)) v ≡ (settled u t >>= λ (x : State). let r : Behind = Err fault in r)
+fails : (u : Option Fault) (fault : Fault) (t v : State) → settled (option_or u (Some fault)) v ≡ (settled u t >>= λ (x : State). let r : Led = Err fault in r)
 fails None fault t v = refl
 fails (Some f) fault t v = refl
 
-pub never_acts : (m : Summary) (fault : Fault) (s : State) → act (with_never m fault) s ≡ (act m s >>= λ (x : State). let r : Behind = Err fault in r)
+pub never_acts : (m : Summary) (fault : Fault) (s : State) → act (with_never m fault) s ≡ (act m s >>= λ (x : State). let r : Led = Err fault in r)
 unfolding unmet
 never_acts m fault s =
     ap (λ (u : Option Fault). settled u (state_after m s)) (unmet_both s m.writes m.demands (record { moment = m.rows; fault = fault; need = Need.Never } ∷ []))
     ∙ fails (unmet s m.writes m.demands) fault (state_after m s) (state_after m s)
 
 -- the fault that ends a reading
-ends : (o : StreamOptions) (fault : Fault) (s : State) (rs : List Placed) → (behind o s rs None >>= λ (t : State). let r : Behind = Err fault in r) ≡ behind o s rs (Some fault)
-unfolding behind
+ends : (o : StreamOptions) (fault : Fault) (s : State) (rs : List Placed) → (after_rows o s rs None >>= λ (t : State). let r : Led = Err fault in r) ≡ after_rows o s rs (Some fault)
+unfolding after_rows
 ends o fault s [] = refl
 ends o fault s (r ∷ rs) =
-    bind_assoc (at_place r.place (state_of (step o r.row s))) (λ t. behind o t rs None) (λ t. Err fault)
-    ∙ bind_ext (at_place r.place (state_of (step o r.row s))) (λ t. behind o t rs None >>= λ u. Err fault) (λ t. behind o t rs (Some fault)) (λ t. ends o fault t rs)
+    bind_assoc (at_place r.place (state_of (step o r.row s))) (λ t. after_rows o t rs None) (λ t. Err fault)
+    ∙ bind_ext (at_place r.place (state_of (step o r.row s))) (λ t. after_rows o t rs None >>= λ u. Err fault) (λ t. after_rows o t rs (Some fault)) (λ t. ends o fault t rs)
 
 pub sums_ended : (o : StreamOptions) (rs : List Placed) (m : Summary) (fault : Fault) → SumsRows o rs None m → SumsRows o rs (Some fault) (with_never m fault)
-sums_ended o rs m fault so_far s sized = never_acts m fault s ∙ ap (λ (x : Behind). x >>= λ (t : State). let r : Behind = Err fault in r) (so_far s sized) ∙ ends o fault s rs
+sums_ended o rs m fault so_far s sized = never_acts m fault s ∙ ap (λ (x : Led). x >>= λ (t : State). let r : Led = Err fault in r) (so_far s sized) ∙ ends o fault s rs
 
-stopped : (r : Behind) (place : Place) (kind : Kind) (g : State → Behind) → ((r >>= stop_at place kind) >>= g) ≡ (r >>= stop_at place kind)
+stopped : (r : Led) (place : Place) (kind : Kind) (g : State → Led) → ((r >>= stop_at place kind) >>= g) ≡ (r >>= stop_at place kind)
 stopped (Ok t) place kind g = refl
 stopped (Err e) place kind g = refl
 
 -- a row with a certain fault, whatever comes after it
 pub sums_refused : (o : StreamOptions) (rs : List Placed) (r : Placed) (more : List Placed) (fault : Option Fault) (kind : Kind) (m m' : Summary) → SumsRows o rs None m
     → Grows o r.place (row_step o r) m m' (Err (stops.Fault kind)) → SumsRows o (rs ++ (r ∷ more)) fault (with_never m' (record { place = r.place; kind = kind }))
-unfolding behind
+unfolding after_rows
 sums_refused o rs r more fault kind m m' so_far grew s sized =
-    let here : (act m' s >>= stop_at r.place kind) ≡ (behind o s rs None >>= λ t. at_place r.place (row_step o r t))
-    = grew s sized ∙ ap (λ (x : Behind). x >>= λ t. at_place r.place (row_step o r t)) (so_far s sized) in
+    let here : (act m' s >>= stop_at r.place kind) ≡ (after_rows o s rs None >>= λ t. at_place r.place (row_step o r t))
+    = grew s sized ∙ ap (λ (x : Led). x >>= λ t. at_place r.place (row_step o r t)) (so_far s sized) in
     never_acts m' (record { place = r.place; kind = kind }) s
-    ∙ sym (stopped (act m' s) r.place kind (λ t. behind o t more fault))
-    ∙ ap (λ (x : Behind). x >>= λ t. behind o t more fault) here
-    ∙ bind_assoc (behind o s rs None) (λ t. at_place r.place (row_step o r t)) (λ t. behind o t more fault)
-    ∙ sym (behind_both o s rs (r ∷ more) fault)
+    ∙ sym (stopped (act m' s) r.place kind (λ t. after_rows o t more fault))
+    ∙ ap (λ (x : Led). x >>= λ t. after_rows o t more fault) here
+    ∙ bind_assoc (after_rows o s rs None) (λ t. at_place r.place (row_step o r t)) (λ t. after_rows o t more fault)
+    ∙ sym (after_both o s rs (r ∷ more) fault)
 
 pub unit_sums : (o : StreamOptions) → SumsRows o [] None unit
-unfolding behind
+unfolding after_rows
 unit_sums o s sized = unit_acts s
 
 pub never_made : (m : Summary) (fault : Fault) → IsMade m → IsMade (with_never m fault)

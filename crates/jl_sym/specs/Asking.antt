@@ -15,7 +15,7 @@ use Rattle.jl_sym_laws.specs.Acting.{act, unmet}
 use Rattle.jl_sym_laws.specs.Composing.{AreBefore, has_left}
 use Rattle.jl_sym_laws.specs.SmallSteps.{demand, term_demands}
 use Rattle.jl_sym_laws.specs.Cutting.{AreMadeWrites, Sized}
-use Rattle.jl_sym_laws.specs.Runs.{at_place}
+use Rattle.jl_state.specs.Running.{at_place}
 
 -- demands of a row that has so many rows of the run before it
 abbrev pub moved : ℕ → List Demand → List Demand

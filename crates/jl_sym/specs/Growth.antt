@@ -9,14 +9,14 @@ use Rattle.jl_sym.specs.declared.growing.Growing.{Growing}
 use Rattle.jl_sym.specs.declared.marks.Marks.{Marks}
 use Rattle.jl_sym.specs.Held.{HasGrowing}
 use Rattle.jl_sym.specs.Marking.{AreMarked}
-use Rattle.jl_sym.specs.Seen.{demands_seen, growing_seen, IsSmall}
+use Rattle.jl_sym.specs.Seen.{demands_seen, growing_seen, word_seen, IsSmall, IsSmallId}
 
 pub record IsFit (bytes : List ℕ) (m : Growing) (marks : Marks) : Type 0 where
   pub made : IsMade (growing_seen bytes m)
   pub name_entry : IsSmall m.name_entry
   pub prefix_entry : IsSmall m.prefix_entry
   pub datatype_entry : IsSmall m.datatype_entry
-  pub name : IsSmall m.ids.name
+  pub name : IsSmallId (word_seen m.ids.name)
   pub marked : AreMarked m.rows (demands_seen m.demands.items) marks
   pub held : HasGrowing bytes m
 

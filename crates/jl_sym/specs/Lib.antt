@@ -7,3 +7,4 @@ pub mod Held
 pub mod Growth
 pub mod RowSteps
 pub mod Sums
+pub mod Lawful

@@ -1,10 +1,10 @@
 -- What the code's summaries stand for: texts in place of where they lie, and terms in place of how a row wrote them.
-use Rattle.std.specs.Prelude.{ℕ, ◌≤◌, List, map}
-use Rattle.jl_base.specs.Spans.{text_of}
+use Rattle.std.specs.Prelude.{ℕ, ◌-◌, ◌^◌, ◌≤◌, List, map, nat_lt, if◌then◌else◌}
 use Rattle.jl_rows.specs.declared.row.Table.{Table}
 use Rattle.jl_rows.specs.Decoder.{most_entries}
 use Rattle.jl_rows.specs.Seen.{term_seen}
-use Rattle.jl_rows.specs.Values as values
+use Rattle.jl_state.specs.Extents.{text_in}
+use Rattle.jl_state.specs.Positions.{position_of}
 use Rattle.jl_sym_laws.specs.RelativeIds as ids
 use Rattle.jl_sym_laws.specs.Symbols.{term_written}
 use Rattle.jl_sym_laws.specs.Summaries as sums
@@ -12,8 +12,8 @@ use Rattle.jl_sym_laws.specs.Cutting.{IsMadeReference}
 use Rattle.jl_sym.specs.declared.relative_id.RelativeId.{RelativeId}
 use Rattle.jl_sym.specs.declared.relative_id.RelativeId.TheVariants as relatives
 use Rattle.jl_sym.specs.declared.relative_id.Refs.{Refs}
-use Rattle.jl_sym.specs.declared.position.Position.{Position}
-use Rattle.jl_sym.specs.declared.position.Position.TheVariants as positions
+use Rattle.jl_sym.specs.declared.id_word.IdWord.{IdWord}
+use Rattle.jl_sym.specs.declared.id_word.RefWords.{RefWords}
 use Rattle.jl_sym.specs.declared.demand.Kept.{Kept}
 use Rattle.jl_sym.specs.declared.demand.Kept.TheVariants as kepts
 use Rattle.jl_sym.specs.declared.demand.Need.{Need}
@@ -39,16 +39,21 @@ abbrev pub IsSmall : RelativeId → Type 0
 IsSmall (relatives.Given n) = n ≤ most_entries
 IsSmall (relatives.After k) = k ≤ most_entries
 
--- what the last ids keep of themselves
-pub record HasLast (r : Refs) : Type 0 where
-  pub name : IsSmall r.name
-  pub prefix : IsMadeReference Table.Prefix (id_seen r.prefix)
+-- an id in one word: from 2^32 on, so many after the incoming last one
+abbrev pub word_seen : IdWord → ids.Id
+word_seen w = if nat_lt w.word (2 ^ 32) then ids.Given w.word else ids.After (w.word - 2 ^ 32)
 
-abbrev pub position_of : Position → values.Position
-position_of positions.Subject = values.Subject
-position_of positions.Predicate = values.Predicate
-position_of positions.Object = values.Object
-position_of positions.Graph = values.Graph
+abbrev pub words_seen : RefWords → ids.Refs
+words_seen r = record { prefix = word_seen r.prefix; name = word_seen r.name }
+
+abbrev pub IsSmallId : ids.Id → Type 0
+IsSmallId (ids.Given n) = n ≤ most_entries
+IsSmallId (ids.After k) = k ≤ most_entries
+
+-- what the last ids keep of themselves
+pub record HasLast (r : RefWords) : Type 0 where
+  pub name : IsSmallId (word_seen r.name)
+  pub prefix : IsMadeReference Table.Prefix (word_seen r.prefix)
 
 abbrev pub kept_seen : Kept → sums.Kept
 kept_seen (kepts.LastAt x) = sums.LastAt (position_of x)
@@ -68,7 +73,7 @@ abbrev pub demands_seen : List Demand → List sums.Demand
 demands_seen ds = map demand_seen ds
 
 abbrev pub write_seen : List ℕ → Write → sums.Written
-write_seen bytes w = record { moment = w.moment; table = w.table; id = id_seen w.id; text = text_of bytes w.text }
+write_seen bytes w = record { moment = w.moment; table = w.table; id = id_seen w.id; text = text_in bytes w.text }
 
 -- a term as it is written, with the last ids before it and the moment at which its texts are read
 abbrev pub left_seen : List ℕ → Left → sums.Left
@@ -96,7 +101,7 @@ summary_seen bytes m = record {
 abbrev pub last_seen : List ℕ → Last → sums.Left
 last_seen bytes lasts.Incoming = sums.Incoming
 last_seen bytes lasts.Cleared = sums.Cleared
-last_seen bytes (lasts.Set moment before term) = sums.Set (record { moment = moment; term = term_written (refs_seen before) (term_seen bytes term.now) })
+last_seen bytes (lasts.Set moment before term) = sums.Set (record { moment = moment; term = term_written (words_seen before) (term_seen bytes term.now) })
 
 abbrev pub growing_seen : List ℕ → Growing → sums.Summary
 growing_seen bytes m = record {
@@ -105,7 +110,7 @@ growing_seen bytes m = record {
   name_entry = id_seen m.name_entry;
   prefix_entry = id_seen m.prefix_entry;
   datatype_entry = id_seen m.datatype_entry;
-  ids = refs_seen m.ids;
+  ids = words_seen m.ids;
   demands = demands_seen m.demands.items;
   subject = last_seen bytes m.subject;
   predicate = last_seen bytes m.predicate;

@@ -4,7 +4,7 @@ ghost use Rattle.jl_base.specs.Limits.{most_bytes};
 ghost use Rattle.jl_rows.specs.Decoder.{size_of};
 ghost use Rattle.jl_rows.specs.Seen as rows;
 ghost use Rattle.jl_rows.specs.Written as written;
-ghost use Rattle.jl_state.specs.Positions.{inner_under, IsPlain, MayStand};
+ghost use Rattle.jl_state.specs.Positions.{inner_under, position_of, IsPlain, MayStand};
 ghost use Rattle.jl_state.specs.Seen.{IsLeaf};
 ghost use Rattle.jl_sym_laws.specs.Cutting as cutting;
 ghost use Rattle.jl_sym_laws.specs.RelativeIds.{incoming, refs_after};
@@ -14,17 +14,16 @@ ghost use Rattle.jl_sym.specs.Asking.{Asks, place_demands};
 ghost use Rattle.jl_sym.specs.Checked.{checked, options_of, IsHere};
 ghost use Rattle.jl_sym.specs.Lays.{laid};
 ghost use Rattle.jl_sym.specs.Marking.{AreAsked};
-ghost use Rattle.jl_sym.specs.Seen.{id_seen, refs_seen, need_seen, last_seen, demands_seen, position_of, HasLast};
+ghost use Rattle.jl_sym.specs.Seen.{id_seen, words_seen, need_seen, last_seen, demands_seen, HasLast};
 
 use crate::demand::{Demand, Kept, Need};
 use crate::growing::Last;
+use crate::id_word::RefWords;
 use crate::marks::Marks;
-use crate::position::Position;
-use crate::relative_id::{Refs, RelativeId, is_reference_in, size_of};
-use crate::tag::is_tag;
+use crate::relative_id::{RelativeId, is_reference_in, size_of};
 use jl_base::{Fault, Kind, Place};
 use jl_rows::{Options, RawIri, RawTail, RawTerm, RawTriple, Table, triple_term_at};
-use jl_state::Stop;
+use jl_state::{Position, Stop, is_tag};
 use std::alloc::AllocError;
 
 /// Where a row stands, with what its checks need.
@@ -38,7 +37,7 @@ pub(crate) struct Here<'a> {
 /// A row of a run, after so many others.
 #[derive(Clone, Copy)]
 pub(crate) struct Asker<'a> {
-    pub here: Here<'a>,
+    pub here: &'a Here<'a>,
     pub moment: u32,
 }
 
@@ -47,7 +46,7 @@ impl Asker<'_> {
     #[inline]
     fn push(&self, demands: &mut Vec<Demand>, kind: Kind, need: Need) -> Result<(), AllocError>
         ensures demands { OnOk result (demands_seen demands.new.items ≡ demands_seen demands.old.items
-            ++ record { moment = self.now.moment; fault = record { place = self.now.here.place; kind = kind }; need = need_seen need } ∷ []) }
+            ++ record { moment = self.now.moment; fault = record { place = self.now.here.now.place; kind = kind }; need = need_seen need } ∷ []) }
         ensures kept { OnErr result (demands.new.items ≡ demands.old.items) }
     {
         let fault = Fault {
@@ -73,8 +72,8 @@ impl Asker<'_> {
     ) -> Result<(), Stop>
         requires good { AreAsked self.now.moment (demands_seen demands.old.items) marks.old }
         requires made { cutting.IsMadeNeed (need_seen need) }
-        ensures asks { Asks (options_of self.now.here) self.now.moment self.now.here.place (demands_seen demands.old.items)
-            (small.demand self.now.here.place kind (need_seen need) ∷ []) (demands_seen demands.new.items) result }
+        ensures asks { Asks (options_of self.now.here.now) self.now.moment self.now.here.now.place (demands_seen demands.old.items)
+            (small.demand self.now.here.now.place kind (need_seen need) ∷ []) (demands_seen demands.new.items) result }
         ensures good { AreAsked self.now.moment (demands_seen demands.new.items) marks.new }
     {
         self.push(demands, kind, need)?;
@@ -93,8 +92,8 @@ impl Asker<'_> {
     ) -> Result<(), Stop>
         requires good { AreAsked self.now.moment (demands_seen demands.old.items) marks.old }
         requires made { cutting.IsMadeNeed (need_seen need) }
-        ensures asks { Asks (options_of self.now.here) self.now.moment self.now.here.place (demands_seen demands.old.items)
-            (small.demand self.now.here.place kind (need_seen need) ∷ []) (demands_seen demands.new.items) result }
+        ensures asks { Asks (options_of self.now.here.now) self.now.moment self.now.here.now.place (demands_seen demands.old.items)
+            (small.demand self.now.here.now.place kind (need_seen need) ∷ []) (demands_seen demands.new.items) result }
         ensures good { AreAsked self.now.moment (demands_seen demands.new.items) marks.new }
     {
         if marks.has(need) {
@@ -114,10 +113,10 @@ impl Asker<'_> {
     ) -> Result<(), Stop>
         requires good { AreAsked self.now.moment (demands_seen demands.old.items) marks.old }
         requires made { cutting.IsNext (id_seen id) }
-        ensures asks { Asks (options_of self.now.here) self.now.moment self.now.here.place (demands_seen demands.old.items)
-            (small.demand self.now.here.place Kind.BadEntry (sums.Fits table (id_seen id)) ∷ []) (demands_seen demands.new.items) result }
+        ensures asks { Asks (options_of self.now.here.now) self.now.moment self.now.here.now.place (demands_seen demands.old.items)
+            (small.demand self.now.here.now.place Kind.BadEntry (sums.Fits table (id_seen id)) ∷ []) (demands_seen demands.new.items) result }
         ensures good { AreAsked self.now.moment (demands_seen demands.new.items) marks.new }
-        ensures fits { OnOk result (cutting.is_id_in (size_of (options_of self.now.here) table) (id_seen id) ≡ true) }
+        ensures fits { OnOk result (cutting.is_id_in (size_of (options_of self.now.here.now) table) (id_seen id) ≡ true) }
     {
         if !id.is_in(size_of(self.here.bytes, self.here.options, table)) {
             return Err(Stop::Fault(Kind::BadEntry));
@@ -126,6 +125,26 @@ impl Asker<'_> {
             return Ok(());
         }
         self.ask(demands, marks, Kind::BadEntry, Need::Fits(table, id))
+    }
+
+    // Asks for the slot of a reference. It stands apart, since a run asks for each slot once.
+    #[inline(never)]
+    fn ask_slot(
+        &self,
+        demands: &mut Vec<Demand>,
+        marks: &mut Marks,
+        table: Table,
+        id: RelativeId,
+    ) -> Result<(), Stop>
+        requires good { AreAsked self.now.moment (demands_seen demands.old.items) marks.old }
+        requires made { cutting.IsMadeReference table (id_seen id) }
+        ensures asks { Asks (options_of self.now.here.now) self.now.moment self.now.here.now.place (demands_seen demands.old.items)
+            (small.demand self.now.here.now.place Kind.NoEntry (sums.Filled table (id_seen id)) ∷ []) (demands_seen demands.new.items) result }
+        ensures good { AreAsked self.now.moment (demands_seen demands.new.items) marks.new }
+    {
+        self.push(demands, Kind::NoEntry, Need::Filled(table, id))?;
+        marks.mark_slot(table, id);
+        Ok(())
     }
 
     // The slot of a reference must be filled.
@@ -139,10 +158,10 @@ impl Asker<'_> {
     ) -> Result<(), Stop>
         requires good { AreAsked self.now.moment (demands_seen demands.old.items) marks.old }
         requires made { cutting.IsMadeReference table (id_seen id) }
-        ensures asks { Asks (options_of self.now.here) self.now.moment self.now.here.place (demands_seen demands.old.items)
-            (small.demand self.now.here.place Kind.NoEntry (sums.Filled table (id_seen id)) ∷ []) (demands_seen demands.new.items) result }
+        ensures asks { Asks (options_of self.now.here.now) self.now.moment self.now.here.now.place (demands_seen demands.old.items)
+            (small.demand self.now.here.now.place Kind.NoEntry (sums.Filled table (id_seen id)) ∷ []) (demands_seen demands.new.items) result }
         ensures good { AreAsked self.now.moment (demands_seen demands.new.items) marks.new }
-        ensures fits { OnOk result (cutting.is_reference_in (options_of self.now.here) table (id_seen id) ≡ true) }
+        ensures fits { OnOk result (cutting.is_reference_in (options_of self.now.here.now) table (id_seen id) ≡ true) }
     {
         if !is_reference_in(self.here.bytes, self.here.options, table, id) {
             return Err(Stop::Fault(Kind::NoEntry));
@@ -150,7 +169,7 @@ impl Asker<'_> {
         if marks.has_slot(table, id) {
             return Ok(());
         }
-        self.ask_first(demands, marks, Kind::NoEntry, Need::Filled(table, id))
+        self.ask_slot(demands, marks, table, id)
     }
 
     /// An IRI, whose ids become the last ones.
@@ -159,33 +178,33 @@ impl Asker<'_> {
         &self,
         demands: &mut Vec<Demand>,
         marks: &mut Marks,
-        last: &mut Refs,
+        last: &mut RefWords,
         iri: RawIri,
     ) -> Result<(), Stop>
-        requires here { IsHere self.now.here }
+        requires here { IsHere self.now.here.now }
         requires good { AreAsked self.now.moment (demands_seen demands.old.items) marks.old }
         requires last { HasLast last.old }
-        ensures asks { Asks (options_of self.now.here) self.now.moment self.now.here.place (demands_seen demands.old.items)
-            (small.term_demands self.now.here.place (refs_seen last.old) (written.Iri (rows.ids_seen iri))) (demands_seen demands.new.items) result }
-        ensures ids { OnOk result (refs_seen last.new ≡ refs_after (written.Iri (rows.ids_seen iri)) (refs_seen last.old)) }
+        ensures asks { Asks (options_of self.now.here.now) self.now.moment self.now.here.now.place (demands_seen demands.old.items)
+            (small.term_demands self.now.here.now.place (words_seen last.old) (written.Iri (rows.ids_seen iri))) (demands_seen demands.new.items) result }
+        ensures ids { OnOk result (words_seen last.new ≡ refs_after (written.Iri (rows.ids_seen iri)) (words_seen last.old)) }
         ensures good { AreAsked self.now.moment (demands_seen demands.new.items) marks.new }
         ensures last { OnOk result (HasLast last.new) }
     {
         let ids = last.after(iri);
-        self.filled(demands, marks, Table::Prefix, ids.prefix)?;
-        self.filled(demands, marks, Table::Name, ids.name)?;
+        self.filled(demands, marks, Table::Prefix, ids.prefix.id())?;
+        self.filled(demands, marks, Table::Name, ids.name.id())?;
         *last = ids;
         Ok(())
     }
 
     // The end of a literal.
-    #[inline]
+    #[inline(always)]
     fn tail(&self, demands: &mut Vec<Demand>, marks: &mut Marks, tail: RawTail) -> Result<(), Stop>
-        requires here { IsHere self.now.here }
+        requires here { IsHere self.now.here.now }
         requires good { AreAsked self.now.moment (demands_seen demands.old.items) marks.old }
-        requires inside { rows.HasTail self.now.here.bytes.now tail }
-        ensures asks { Asks (options_of self.now.here) self.now.moment self.now.here.place (demands_seen demands.old.items)
-            (small.tail_demands self.now.here.place (rows.ending_seen self.now.here.bytes.now tail)) (demands_seen demands.new.items) result }
+        requires inside { rows.HasTail self.now.here.now.bytes.now tail }
+        ensures asks { Asks (options_of self.now.here.now) self.now.moment self.now.here.now.place (demands_seen demands.old.items)
+            (small.tail_demands self.now.here.now.place (rows.ending_seen self.now.here.now.bytes.now tail)) (demands_seen demands.new.items) result }
         ensures good { AreAsked self.now.moment (demands_seen demands.new.items) marks.new }
     {
         match tail {
@@ -210,17 +229,17 @@ impl Asker<'_> {
         &self,
         demands: &mut Vec<Demand>,
         marks: &mut Marks,
-        last: &mut Refs,
+        last: &mut RefWords,
         raw: &RawTerm,
     ) -> Result<(), Stop>
-        requires here { IsHere self.now.here }
+        requires here { IsHere self.now.here.now }
         requires good { AreAsked self.now.moment (demands_seen demands.old.items) marks.old }
-        requires inside { rows.HasTerm self.now.here.bytes.now raw.now }
+        requires inside { rows.HasTerm self.now.here.now.bytes.now raw.now }
         requires last { HasLast last.old }
         requires leaf { IsLeaf raw.now }
-        ensures asks { Asks (options_of self.now.here) self.now.moment self.now.here.place (demands_seen demands.old.items)
-            (small.term_demands self.now.here.place (refs_seen last.old) (rows.term_seen self.now.here.bytes.now raw.now)) (demands_seen demands.new.items) result }
-        ensures ids { OnOk result (refs_seen last.new ≡ refs_after (rows.term_seen self.now.here.bytes.now raw.now) (refs_seen last.old)) }
+        ensures asks { Asks (options_of self.now.here.now) self.now.moment self.now.here.now.place (demands_seen demands.old.items)
+            (small.term_demands self.now.here.now.place (words_seen last.old) (rows.term_seen self.now.here.now.bytes.now raw.now)) (demands_seen demands.new.items) result }
+        ensures ids { OnOk result (words_seen last.new ≡ refs_after (rows.term_seen self.now.here.now.bytes.now raw.now) (words_seen last.old)) }
         ensures good { AreAsked self.now.moment (demands_seen demands.new.items) marks.new }
         ensures last { OnOk result (HasLast last.new) }
     {
@@ -239,18 +258,18 @@ impl Asker<'_> {
         &self,
         demands: &mut Vec<Demand>,
         marks: &mut Marks,
-        last: &mut Refs,
+        last: &mut RefWords,
         x: Position,
         raw: &RawTerm,
     ) -> Result<(), Stop>
-        requires here { IsHere self.now.here }
+        requires here { IsHere self.now.here.now }
         requires good { AreAsked self.now.moment (demands_seen demands.old.items) marks.old }
-        requires inside { rows.HasTerm self.now.here.bytes.now raw.now }
+        requires inside { rows.HasTerm self.now.here.now.bytes.now raw.now }
         requires last { HasLast last.old }
-        ensures asks { Asks (options_of self.now.here) self.now.moment self.now.here.place (demands_seen demands.old.items)
-            (small.term_demands self.now.here.place (refs_seen last.old) (checked (options_of self.now.here) (position_of x) (rows.term_seen self.now.here.bytes.now raw.now))) (demands_seen demands.new.items) result }
-        ensures same { OnOk result (checked (options_of self.now.here) (position_of x) (rows.term_seen self.now.here.bytes.now raw.now) ≡ rows.term_seen self.now.here.bytes.now raw.now) }
-        ensures ids { OnOk result (refs_seen last.new ≡ refs_after (rows.term_seen self.now.here.bytes.now raw.now) (refs_seen last.old)) }
+        ensures asks { Asks (options_of self.now.here.now) self.now.moment self.now.here.now.place (demands_seen demands.old.items)
+            (small.term_demands self.now.here.now.place (words_seen last.old) (checked (options_of self.now.here.now) (position_of x) (rows.term_seen self.now.here.now.bytes.now raw.now))) (demands_seen demands.new.items) result }
+        ensures same { OnOk result (checked (options_of self.now.here.now) (position_of x) (rows.term_seen self.now.here.now.bytes.now raw.now) ≡ rows.term_seen self.now.here.now.bytes.now raw.now) }
+        ensures ids { OnOk result (words_seen last.new ≡ refs_after (rows.term_seen self.now.here.now.bytes.now raw.now) (words_seen last.old)) }
         ensures good { AreAsked self.now.moment (demands_seen demands.new.items) marks.new }
         ensures last { OnOk result (HasLast last.new) }
     {
@@ -267,18 +286,18 @@ impl Asker<'_> {
         &self,
         demands: &mut Vec<Demand>,
         marks: &mut Marks,
-        last: &mut Refs,
+        last: &mut RefWords,
         x: Position,
         raw: &RawTerm,
     ) -> Result<(), Stop>
-        requires here { IsHere self.now.here }
+        requires here { IsHere self.now.here.now }
         requires good { AreAsked self.now.moment (demands_seen demands.old.items) marks.old }
-        requires inside { rows.HasTerm self.now.here.bytes.now raw.now }
+        requires inside { rows.HasTerm self.now.here.now.bytes.now raw.now }
         requires last { HasLast last.old }
-        ensures asks { Asks (options_of self.now.here) self.now.moment self.now.here.place (demands_seen demands.old.items)
-            (small.term_demands self.now.here.place (refs_seen last.old) (checked (options_of self.now.here) (position_of x) (rows.term_seen self.now.here.bytes.now raw.now))) (demands_seen demands.new.items) result }
-        ensures same { OnOk result (checked (options_of self.now.here) (position_of x) (rows.term_seen self.now.here.bytes.now raw.now) ≡ rows.term_seen self.now.here.bytes.now raw.now) }
-        ensures ids { OnOk result (refs_seen last.new ≡ refs_after (rows.term_seen self.now.here.bytes.now raw.now) (refs_seen last.old)) }
+        ensures asks { Asks (options_of self.now.here.now) self.now.moment self.now.here.now.place (demands_seen demands.old.items)
+            (small.term_demands self.now.here.now.place (words_seen last.old) (checked (options_of self.now.here.now) (position_of x) (rows.term_seen self.now.here.now.bytes.now raw.now))) (demands_seen demands.new.items) result }
+        ensures same { OnOk result (checked (options_of self.now.here.now) (position_of x) (rows.term_seen self.now.here.now.bytes.now raw.now) ≡ rows.term_seen self.now.here.now.bytes.now raw.now) }
+        ensures ids { OnOk result (words_seen last.new ≡ refs_after (rows.term_seen self.now.here.now.bytes.now raw.now) (words_seen last.old)) }
         ensures good { AreAsked self.now.moment (demands_seen demands.new.items) marks.new }
         ensures last { OnOk result (HasLast last.new) }
     {
@@ -300,17 +319,17 @@ impl Asker<'_> {
         &self,
         demands: &mut Vec<Demand>,
         marks: &mut Marks,
-        last: &mut Refs,
+        last: &mut RefWords,
         terms: &RawTriple,
     ) -> Result<(), Stop>
-        requires here { IsHere self.now.here }
+        requires here { IsHere self.now.here.now }
         requires good { AreAsked self.now.moment (demands_seen demands.old.items) marks.old }
-        requires inside { rows.HasTriple self.now.here.bytes.now terms.now }
+        requires inside { rows.HasTriple self.now.here.now.bytes.now terms.now }
         requires last { HasLast last.old }
-        ensures asks { Asks (options_of self.now.here) self.now.moment self.now.here.place (demands_seen demands.old.items)
-            (small.term_demands self.now.here.place (refs_seen last.old) (inner_under self.now.here.options.now.strict (options_of self.now.here) (rows.nested_seen self.now.here.bytes.now terms.now))) (demands_seen demands.new.items) result }
-        ensures same { OnOk result (inner_under self.now.here.options.now.strict (options_of self.now.here) (rows.nested_seen self.now.here.bytes.now terms.now) ≡ rows.nested_seen self.now.here.bytes.now terms.now) }
-        ensures ids { OnOk result (refs_seen last.new ≡ refs_after (rows.nested_seen self.now.here.bytes.now terms.now) (refs_seen last.old)) }
+        ensures asks { Asks (options_of self.now.here.now) self.now.moment self.now.here.now.place (demands_seen demands.old.items)
+            (small.term_demands self.now.here.now.place (words_seen last.old) (inner_under self.now.here.now.options.now.strict (options_of self.now.here.now) (rows.nested_seen self.now.here.now.bytes.now terms.now))) (demands_seen demands.new.items) result }
+        ensures same { OnOk result (inner_under self.now.here.now.options.now.strict (options_of self.now.here.now) (rows.nested_seen self.now.here.now.bytes.now terms.now) ≡ rows.nested_seen self.now.here.now.bytes.now terms.now) }
+        ensures ids { OnOk result (words_seen last.new ≡ refs_after (rows.nested_seen self.now.here.now.bytes.now terms.now) (words_seen last.old)) }
         ensures good { AreAsked self.now.moment (demands_seen demands.new.items) marks.new }
         ensures last { OnOk result (HasLast last.new) }
     {
@@ -325,18 +344,18 @@ impl Asker<'_> {
         &self,
         demands: &mut Vec<Demand>,
         marks: &mut Marks,
-        last: &mut Refs,
+        last: &mut RefWords,
         x: Position,
         raw: &Option<RawTerm>,
     ) -> Result<(), Stop>
-        requires here { IsHere self.now.here }
+        requires here { IsHere self.now.here.now }
         requires good { AreAsked self.now.moment (demands_seen demands.old.items) marks.old }
-        requires inside { rows.HasPosition self.now.here.bytes.now raw.now }
+        requires inside { rows.HasPosition self.now.here.now.bytes.now raw.now }
         requires last { HasLast last.old }
-        ensures asks { Asks (options_of self.now.here) self.now.moment self.now.here.place (demands_seen demands.old.items)
-            (small.term_demands self.now.here.place (refs_seen last.old) (checked (options_of self.now.here) (position_of x) (rows.position_seen self.now.here.bytes.now raw.now))) (demands_seen demands.new.items) result }
-        ensures same { OnOk result (checked (options_of self.now.here) (position_of x) (rows.position_seen self.now.here.bytes.now raw.now) ≡ rows.position_seen self.now.here.bytes.now raw.now) }
-        ensures ids { OnOk result (refs_seen last.new ≡ refs_after (rows.position_seen self.now.here.bytes.now raw.now) (refs_seen last.old)) }
+        ensures asks { Asks (options_of self.now.here.now) self.now.moment self.now.here.now.place (demands_seen demands.old.items)
+            (small.term_demands self.now.here.now.place (words_seen last.old) (checked (options_of self.now.here.now) (position_of x) (rows.position_seen self.now.here.now.bytes.now raw.now))) (demands_seen demands.new.items) result }
+        ensures same { OnOk result (checked (options_of self.now.here.now) (position_of x) (rows.position_seen self.now.here.now.bytes.now raw.now) ≡ rows.position_seen self.now.here.now.bytes.now raw.now) }
+        ensures ids { OnOk result (words_seen last.new ≡ refs_after (rows.position_seen self.now.here.now.bytes.now raw.now) (words_seen last.old)) }
         ensures good { AreAsked self.now.moment (demands_seen demands.new.items) marks.new }
         ensures last { OnOk result (HasLast last.new) }
     {

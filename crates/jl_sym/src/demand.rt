@@ -1,8 +1,8 @@
 //! What a run asks of the state before it.
-use crate::position::Position;
 use crate::relative_id::RelativeId;
 use jl_base::Fault;
 use jl_rows::Table;
+use jl_state::Position;
 
 /// What a state keeps by value: the last term at a position, and the open graph.
 #[derive(Clone, Copy, Debug, PartialEq, Eq)]

@@ -14,7 +14,7 @@ use crate::relative_id::RelativeId;
 use crate::summary::Write;
 use jl_base::Span;
 use jl_rows::Table;
-use jl_state::Stop;
+use jl_state::{Extent, Stop};
 
 impl<'a> Growing<'a> {
     // The id of the last entry of a table.
@@ -60,7 +60,7 @@ impl<'a> Growing<'a> {
     {
         let id = self.last_entry(table).entry(written);
         let asker = Asker {
-            here: *here,
+            here,
             moment: self.rows,
         };
         asker.fits(&mut self.demands, marks, table, id)?;
@@ -68,7 +68,7 @@ impl<'a> Growing<'a> {
             moment: self.rows,
             table,
             id,
-            text,
+            text: Extent::marked(here.bytes, text),
         })?;
         self.set_entry(table, id);
         self.rows += 1;

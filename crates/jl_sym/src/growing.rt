@@ -1,7 +1,8 @@
 //! Summaries that are being made: what each small step of a row does to them.
-ghost use Rattle.std.specs.Prelude.{◌≡◌, ◌+◌, ◌<◌, ◌^◌, ℕ, List, Ok, OnOk, false};
+ghost use Rattle.std.specs.Prelude.{◌≡◌, ◌+◌, ◌<◌, ◌^◌, ℕ, List, [], Ok, OnOk, false};
 ghost use Rattle.jl_rows.specs.Seen as rows;
 ghost use Rattle.jl_rows.specs.Values as values;
+ghost use Rattle.jl_state.specs.Positions.{position_of};
 ghost use Rattle.jl_sym_laws.specs.Cutting.{IsMade};
 ghost use Rattle.jl_sym_laws.specs.SmallSteps as small;
 ghost use Rattle.jl_sym_laws.specs.Summaries as sums;
@@ -12,17 +13,17 @@ ghost use Rattle.jl_sym.specs.Growth.{with_never, IsFit};
 ghost use Rattle.jl_sym.specs.Held.{HasGrowing, HasKept, HasLeft, HasSummary};
 ghost use Rattle.jl_sym.specs.Marking.{is_marked};
 ghost use Rattle.jl_sym.specs.RowSteps.{puts};
-ghost use Rattle.jl_sym.specs.Seen.{left_seen, last_seen, growing_seen, summary_seen, position_of};
+ghost use Rattle.jl_sym.specs.Seen.{left_seen, last_seen, growing_seen, summary_seen};
 
 use crate::asker::{Asker, Here};
 use crate::demand::{Demand, Kept, Need};
+use crate::id_word::RefWords;
 use crate::marks::Marks;
-use crate::position::Position;
-use crate::relative_id::{Refs, RelativeId};
+use crate::relative_id::RelativeId;
 use crate::summary::{Left, Summary, Write};
 use jl_base::{Fault, Kind};
 use jl_rows::{RawIri, RawTerm};
-use jl_state::Stop;
+use jl_state::{Position, Stop};
 use std::alloc::{AllocError, Global};
 
 /// What the rows so far leave of a thing that is kept: a term stays where its row lies.
@@ -32,7 +33,7 @@ pub(crate) enum Last<'a> {
     Cleared,
     Set {
         moment: u32,
-        before: Refs,
+        before: RefWords,
         term: &'a RawTerm,
     },
 }
@@ -53,10 +54,20 @@ impl Last<'_> {
                 term,
             } => Left::Set {
                 moment,
-                before,
+                before: before.refs(),
                 term: *term,
             },
         }
+    }
+}
+
+// A list with room for so many, where memory is found for that.
+fn list_for<T>(alloc: Global, room: usize) -> Vec<T>
+    ensures { result.items ≡ [] }
+{
+    match Vec::with_capacity(alloc, room) {
+        Ok(list) => list,
+        Err(_) => Vec::new(alloc),
     }
 }
 
@@ -69,7 +80,7 @@ pub(crate) struct Growing<'a> {
     pub name_entry: RelativeId,
     pub prefix_entry: RelativeId,
     pub datatype_entry: RelativeId,
-    pub ids: Refs,
+    pub ids: RefWords,
     pub subject: Last<'a>,
     pub predicate: Last<'a>,
     pub object: Last<'a>,
@@ -78,22 +89,19 @@ pub(crate) struct Growing<'a> {
 }
 
 impl<'a> Growing<'a> {
-    /// The summary of no rows.
-    pub fn new(alloc: Global) -> Growing<'a>
+    /// The summary of no rows, with room for what so many rows are likely to ask and write.
+    pub fn new(alloc: Global, rows: usize) -> Growing<'a>
         ensures none { (bytes : List ℕ) → growing_seen bytes result ≡ sums.unit }
         ensures fit { (bytes : List ℕ) → (marks : Marks) → ((need : sums.Need) → is_marked need marks ≡ false) → IsFit bytes result marks }
     {
         Growing {
             rows: 0,
-            writes: Vec::new(alloc),
-            demands: Vec::new(alloc),
+            writes: list_for(alloc, rows / 2),
+            demands: list_for(alloc, rows),
             name_entry: RelativeId::After(0),
             prefix_entry: RelativeId::After(0),
             datatype_entry: RelativeId::After(0),
-            ids: Refs {
-                prefix: RelativeId::After(0),
-                name: RelativeId::After(0),
-            },
+            ids: RefWords::incoming(),
             subject: Last::Incoming,
             predicate: Last::Incoming,
             object: Last::Incoming,
@@ -118,7 +126,7 @@ impl<'a> Growing<'a> {
         ensures rows { self.new.rows ≡ self.old.rows }
     {
         let asker = Asker {
-            here: *here,
+            here,
             moment: self.rows,
         };
         let (demands, ids) = (&mut self.demands, &mut self.ids);
@@ -148,7 +156,7 @@ impl<'a> Growing<'a> {
         ensures rows { self.new.rows ≡ self.old.rows }
     {
         let asker = Asker {
-            here: *here,
+            here,
             moment: self.rows,
         };
         let (demands, ids) = (&mut self.demands, &mut self.ids);
@@ -178,7 +186,7 @@ impl<'a> Growing<'a> {
         ensures rows { self.new.rows ≡ self.old.rows }
     {
         let asker = Asker {
-            here: *here,
+            here,
             moment: self.rows,
         };
         let (demands, ids) = (&mut self.demands, &mut self.ids);
@@ -201,7 +209,7 @@ impl<'a> Growing<'a> {
         ensures rows { self.new.rows ≡ self.old.rows }
     {
         let asker = Asker {
-            here: *here,
+            here,
             moment: self.rows,
         };
         let (demands, ids) = (&mut self.demands, &mut self.ids);
@@ -218,7 +226,7 @@ impl<'a> Growing<'a> {
         ensures rows { self.new.rows ≡ self.old.rows }
     {
         let asker = Asker {
-            here: *here,
+            here,
             moment: self.rows,
         };
         let mut ids = self.ids;
@@ -237,7 +245,7 @@ impl<'a> Growing<'a> {
         ensures rows { self.new.rows ≡ self.old.rows }
     {
         let asker = Asker {
-            here: *here,
+            here,
             moment: self.rows,
         };
         asker.has(
@@ -265,7 +273,7 @@ impl<'a> Growing<'a> {
         ensures rows { self.new.rows ≡ self.old.rows }
     {
         let asker = Asker {
-            here: *here,
+            here,
             moment: self.rows,
         };
         asker.start(
@@ -287,7 +295,7 @@ impl<'a> Growing<'a> {
         ensures rows { self.new.rows ≡ self.old.rows }
     {
         let asker = Asker {
-            here: *here,
+            here,
             moment: self.rows,
         };
         asker.has(
@@ -343,7 +351,7 @@ impl<'a> Growing<'a> {
             name_entry: self.name_entry,
             prefix_entry: self.prefix_entry,
             datatype_entry: self.datatype_entry,
-            ids: self.ids,
+            ids: self.ids.refs(),
             subject: self.subject.left(),
             predicate: self.predicate.left(),
             object: self.object.left(),

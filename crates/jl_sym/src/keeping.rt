@@ -2,6 +2,7 @@
 ghost use Rattle.std.specs.Prelude.{◌≡◌, ◌++◌, OnOk, OnErr};
 ghost use Rattle.jl_rows.specs.Seen as rows;
 ghost use Rattle.jl_rows.specs.Values as values;
+ghost use Rattle.jl_state.specs.Positions.{position_of};
 ghost use Rattle.jl_sym_laws.specs.Composing.{has_left, lacks_left};
 ghost use Rattle.jl_sym_laws.specs.RelativeIds.{refs_after};
 ghost use Rattle.jl_sym_laws.specs.SmallSteps as small;
@@ -11,22 +12,21 @@ ghost use Rattle.jl_sym.specs.Checked.{checked, options_of, IsHere};
 ghost use Rattle.jl_sym.specs.Held.{HasKept};
 ghost use Rattle.jl_sym.specs.Lays.{laid, set_left};
 ghost use Rattle.jl_sym.specs.Marking.{AreAsked};
-ghost use Rattle.jl_sym.specs.Seen.{refs_seen, kept_seen, last_seen, demands_seen, position_of, HasLast};
+ghost use Rattle.jl_sym.specs.Seen.{words_seen, kept_seen, last_seen, demands_seen, HasLast};
 
 use crate::asker::Asker;
 use crate::demand::{Demand, Kept, Need};
 use crate::growing::Last;
+use crate::id_word::RefWords;
 use crate::marks::Marks;
-use crate::position::Position;
-use crate::relative_id::Refs;
 use jl_base::Kind;
 use jl_rows::RawTerm;
-use jl_state::Stop;
+use jl_state::{Position, Stop};
 
-impl<'a> Asker<'a> {
+impl Asker<'_> {
     /// What is kept must be there, unless the run set it.
     #[inline]
-    pub fn has(
+    pub fn has<'a>(
         &self,
         demands: &mut Vec<Demand>,
         marks: &mut Marks,
@@ -35,8 +35,8 @@ impl<'a> Asker<'a> {
         left: &Last<'a>,
     ) -> Result<(), Stop>
         requires good { AreAsked self.now.moment (demands_seen demands.old.items) marks.old }
-        ensures asks { Asks (options_of self.now.here) self.now.moment self.now.here.place (demands_seen demands.old.items)
-            (perhaps self.now.here.place kind (has_left (kept_seen kept) (last_seen self.now.here.bytes.now left.now))) (demands_seen demands.new.items) result }
+        ensures asks { Asks (options_of self.now.here.now) self.now.moment self.now.here.now.place (demands_seen demands.old.items)
+            (perhaps self.now.here.now.place kind (has_left (kept_seen kept) (last_seen self.now.here.now.bytes.now left.now))) (demands_seen demands.new.items) result }
         ensures good { AreAsked self.now.moment (demands_seen demands.new.items) marks.new }
     {
         match left {
@@ -48,15 +48,15 @@ impl<'a> Asker<'a> {
 
     // No graph may be open.
     #[inline]
-    fn lacks_graph(
+    fn lacks_graph<'a>(
         &self,
         demands: &mut Vec<Demand>,
         marks: &mut Marks,
         left: &Last<'a>,
     ) -> Result<(), Stop>
         requires good { AreAsked self.now.moment (demands_seen demands.old.items) marks.old }
-        ensures asks { Asks (options_of self.now.here) self.now.moment self.now.here.place (demands_seen demands.old.items)
-            (perhaps self.now.here.place Kind.GraphOpen (lacks_left sums.OpenGraph (last_seen self.now.here.bytes.now left.now))) (demands_seen demands.new.items) result }
+        ensures asks { Asks (options_of self.now.here.now) self.now.moment self.now.here.now.place (demands_seen demands.old.items)
+            (perhaps self.now.here.now.place Kind.GraphOpen (lacks_left sums.OpenGraph (last_seen self.now.here.now.bytes.now left.now))) (demands_seen demands.new.items) result }
         ensures good { AreAsked self.now.moment (demands_seen demands.new.items) marks.new }
     {
         match left {
@@ -73,27 +73,27 @@ impl<'a> Asker<'a> {
 
     // A term that is set where a run leaves it, with the last ids after it.
     #[inline(always)]
-    fn set(
+    fn set<'a>(
         &self,
         demands: &mut Vec<Demand>,
         marks: &mut Marks,
-        last: &mut Refs,
+        last: &mut RefWords,
         x: Position,
         left: &mut Last<'a>,
         raw: &'a RawTerm,
     ) -> Result<(), Stop>
-        requires here { IsHere self.now.here }
+        requires here { IsHere self.now.here.now }
         requires good { AreAsked self.now.moment (demands_seen demands.old.items) marks.old }
-        requires inside { rows.HasTerm self.now.here.bytes.now raw.now }
+        requires inside { rows.HasTerm self.now.here.now.bytes.now raw.now }
         requires last { HasLast last.old }
-        ensures asks { Asks (options_of self.now.here) self.now.moment self.now.here.place (demands_seen demands.old.items)
-            (small.term_demands self.now.here.place (refs_seen last.old) (checked (options_of self.now.here) (position_of x) (rows.term_seen self.now.here.bytes.now raw.now))) (demands_seen demands.new.items) result }
-        ensures ids { OnOk result (refs_seen last.new ≡ refs_after (checked (options_of self.now.here) (position_of x) (rows.term_seen self.now.here.bytes.now raw.now)) (refs_seen last.old)) }
-        ensures left { OnOk result (last_seen self.now.here.bytes.now left.new ≡ set_left self.now.moment (refs_seen last.old) (checked (options_of self.now.here) (position_of x) (rows.term_seen self.now.here.bytes.now raw.now))) }
-        ensures plain { OnOk result (checked (options_of self.now.here) (position_of x) (rows.term_seen self.now.here.bytes.now raw.now) ≡ rows.term_seen self.now.here.bytes.now raw.now) }
+        ensures asks { Asks (options_of self.now.here.now) self.now.moment self.now.here.now.place (demands_seen demands.old.items)
+            (small.term_demands self.now.here.now.place (words_seen last.old) (checked (options_of self.now.here.now) (position_of x) (rows.term_seen self.now.here.now.bytes.now raw.now))) (demands_seen demands.new.items) result }
+        ensures ids { OnOk result (words_seen last.new ≡ refs_after (checked (options_of self.now.here.now) (position_of x) (rows.term_seen self.now.here.now.bytes.now raw.now)) (words_seen last.old)) }
+        ensures left { OnOk result (last_seen self.now.here.now.bytes.now left.new ≡ set_left self.now.moment (words_seen last.old) (checked (options_of self.now.here.now) (position_of x) (rows.term_seen self.now.here.now.bytes.now raw.now))) }
+        ensures plain { OnOk result (checked (options_of self.now.here.now) (position_of x) (rows.term_seen self.now.here.now.bytes.now raw.now) ≡ rows.term_seen self.now.here.now.bytes.now raw.now) }
         ensures same { OnErr result ((last.new ≡ last.old) × (left.new ≡ left.old)) }
         ensures good { AreAsked self.now.moment (demands_seen demands.new.items) marks.new }
-        ensures held { OnOk result (HasKept self.now.here.bytes.now left.new) }
+        ensures held { OnOk result (HasKept self.now.here.now.bytes.now left.new) }
         ensures last { OnOk result (HasLast last.new) }
     {
         let mut ids = *last;
@@ -109,27 +109,27 @@ impl<'a> Asker<'a> {
 
     /// A term at a position: the row's own, or the last one there again.
     #[inline(always)]
-    pub fn place(
+    pub fn place<'a>(
         &self,
         demands: &mut Vec<Demand>,
         marks: &mut Marks,
-        last: &mut Refs,
+        last: &mut RefWords,
         x: Position,
         left: &mut Last<'a>,
         raw: &'a Option<RawTerm>,
     ) -> Result<(), Stop>
-        requires here { IsHere self.now.here }
+        requires here { IsHere self.now.here.now }
         requires good { AreAsked self.now.moment (demands_seen demands.old.items) marks.old }
-        requires inside { rows.HasPosition self.now.here.bytes.now raw.now }
-        requires held { HasKept self.now.here.bytes.now left.old }
+        requires inside { rows.HasPosition self.now.here.now.bytes.now raw.now }
+        requires held { HasKept self.now.here.now.bytes.now left.old }
         requires last { HasLast last.old }
-        ensures asks { Asks (options_of self.now.here) self.now.moment self.now.here.place (demands_seen demands.old.items)
-            (place_demands self.now.here.place (sums.LastAt (position_of x)) (last_seen self.now.here.bytes.now left.old) (refs_seen last.old) (checked (options_of self.now.here) (position_of x) (rows.position_seen self.now.here.bytes.now raw.now))) (demands_seen demands.new.items) result }
-        ensures ids { OnOk result (refs_seen last.new ≡ refs_after (checked (options_of self.now.here) (position_of x) (rows.position_seen self.now.here.bytes.now raw.now)) (refs_seen last.old)) }
-        ensures left { OnOk result (last_seen self.now.here.bytes.now left.new ≡ laid self.now.moment (refs_seen last.old) (checked (options_of self.now.here) (position_of x) (rows.position_seen self.now.here.bytes.now raw.now)) (last_seen self.now.here.bytes.now left.old)) }
+        ensures asks { Asks (options_of self.now.here.now) self.now.moment self.now.here.now.place (demands_seen demands.old.items)
+            (place_demands self.now.here.now.place (sums.LastAt (position_of x)) (last_seen self.now.here.now.bytes.now left.old) (words_seen last.old) (checked (options_of self.now.here.now) (position_of x) (rows.position_seen self.now.here.now.bytes.now raw.now))) (demands_seen demands.new.items) result }
+        ensures ids { OnOk result (words_seen last.new ≡ refs_after (checked (options_of self.now.here.now) (position_of x) (rows.position_seen self.now.here.now.bytes.now raw.now)) (words_seen last.old)) }
+        ensures left { OnOk result (last_seen self.now.here.now.bytes.now left.new ≡ laid self.now.moment (words_seen last.old) (checked (options_of self.now.here.now) (position_of x) (rows.position_seen self.now.here.now.bytes.now raw.now)) (last_seen self.now.here.now.bytes.now left.old)) }
         ensures same { OnErr result ((last.new ≡ last.old) × (left.new ≡ left.old)) }
         ensures good { AreAsked self.now.moment (demands_seen demands.new.items) marks.new }
-        ensures held { OnOk result (HasKept self.now.here.bytes.now left.new) }
+        ensures held { OnOk result (HasKept self.now.here.now.bytes.now left.new) }
         ensures last { OnOk result (HasLast last.new) }
     {
         let Some(raw) = raw else {
@@ -140,26 +140,26 @@ impl<'a> Asker<'a> {
 
     /// A graph that is started.
     #[inline]
-    pub fn start(
+    pub fn start<'a>(
         &self,
         demands: &mut Vec<Demand>,
         marks: &mut Marks,
-        last: &mut Refs,
+        last: &mut RefWords,
         left: &mut Last<'a>,
         raw: &'a Option<RawTerm>,
     ) -> Result<(), Stop>
-        requires here { IsHere self.now.here }
+        requires here { IsHere self.now.here.now }
         requires good { AreAsked self.now.moment (demands_seen demands.old.items) marks.old }
-        requires inside { rows.HasPosition self.now.here.bytes.now raw.now }
+        requires inside { rows.HasPosition self.now.here.now.bytes.now raw.now }
         requires last { HasLast last.old }
-        ensures asks { Asks (options_of self.now.here) self.now.moment self.now.here.place (demands_seen demands.old.items)
-            (perhaps self.now.here.place Kind.GraphOpen (lacks_left sums.OpenGraph (last_seen self.now.here.bytes.now left.old))
-            ++ small.term_demands self.now.here.place (refs_seen last.old) (checked (options_of self.now.here) values.Graph (rows.position_seen self.now.here.bytes.now raw.now))) (demands_seen demands.new.items) result }
-        ensures ids { OnOk result (refs_seen last.new ≡ refs_after (checked (options_of self.now.here) values.Graph (rows.position_seen self.now.here.bytes.now raw.now)) (refs_seen last.old)) }
-        ensures left { OnOk result (last_seen self.now.here.bytes.now left.new ≡ set_left self.now.moment (refs_seen last.old) (checked (options_of self.now.here) values.Graph (rows.position_seen self.now.here.bytes.now raw.now))) }
+        ensures asks { Asks (options_of self.now.here.now) self.now.moment self.now.here.now.place (demands_seen demands.old.items)
+            (perhaps self.now.here.now.place Kind.GraphOpen (lacks_left sums.OpenGraph (last_seen self.now.here.now.bytes.now left.old))
+            ++ small.term_demands self.now.here.now.place (words_seen last.old) (checked (options_of self.now.here.now) values.Graph (rows.position_seen self.now.here.now.bytes.now raw.now))) (demands_seen demands.new.items) result }
+        ensures ids { OnOk result (words_seen last.new ≡ refs_after (checked (options_of self.now.here.now) values.Graph (rows.position_seen self.now.here.now.bytes.now raw.now)) (words_seen last.old)) }
+        ensures left { OnOk result (last_seen self.now.here.now.bytes.now left.new ≡ set_left self.now.moment (words_seen last.old) (checked (options_of self.now.here.now) values.Graph (rows.position_seen self.now.here.now.bytes.now raw.now))) }
         ensures same { OnErr result ((last.new ≡ last.old) × (left.new ≡ left.old)) }
         ensures good { AreAsked self.now.moment (demands_seen demands.new.items) marks.new }
-        ensures held { OnOk result (HasKept self.now.here.bytes.now left.new) }
+        ensures held { OnOk result (HasKept self.now.here.now.bytes.now left.new) }
         ensures last { OnOk result (HasLast last.new) }
     {
         self.lacks_graph(demands, marks, left)?;

@@ -9,20 +9,24 @@ mod asker;
 mod demand;
 mod entry;
 mod growing;
+mod id_word;
 mod keeping;
 mod marks;
+mod of_run;
 mod position;
 mod relative_id;
 mod rows;
+mod steps;
 mod summary;
 mod summing;
-mod tag;
 #[cfg(test)]
 mod tests;
+mod words;
 
 pub use demand::{Demand, Kept, Need};
 pub use marks::Marks;
-pub use position::Position;
+pub use of_run::summarise;
 pub use relative_id::{Refs, RelativeId};
+pub use steps::Steps;
 pub use summary::{Left, Summary, Write};
 pub use summing::summarise_tape;

@@ -5,9 +5,9 @@ ghost use Rattle.jl_sym.specs.Marking.{is_marked};
 ghost use Rattle.jl_sym.specs.Seen.{need_seen};
 
 use crate::demand::{Kept, Need};
-use crate::position::Position;
 use crate::relative_id::RelativeId;
 use jl_rows::{Options, Table};
+use jl_state::Position;
 use std::alloc::{AllocError, Global};
 
 /// A mark for each slot, for each number of entries after the incoming last one, and for each thing that is kept. Its
@@ -157,8 +157,9 @@ impl Marks {
         }
     }
 
+    /// Marks a slot, where there is room for it.
     #[inline]
-    fn mark_slot(&mut self, table: Table, id: RelativeId)
+    pub(crate) fn mark_slot(&mut self, table: Table, id: RelativeId)
         ensures { (need : sums.Need) → is_marked need self.new ≡ true → (is_marked need self.old ≡ true) ⊎ (need ≡ need_seen (Need.Filled table id)) }
     {
         match table {

@@ -4,9 +4,9 @@ ghost use Rattle.jl_rows.specs.Decoder as decoder;
 ghost use Rattle.jl_rows.specs.Seen as rows;
 ghost use Rattle.jl_sym_laws.specs.Cutting as cutting;
 ghost use Rattle.jl_sym_laws.specs.RelativeIds as ids;
-ghost use Rattle.jl_sym.specs.Seen.{id_seen, refs_seen, IsSmall};
+ghost use Rattle.jl_sym.specs.Seen.{id_seen, IsSmall};
 
-use jl_rows::{Options, RawIri, Table};
+use jl_rows::{Options, Table};
 
 /// An id: the number itself, or so many after the incoming last one.
 #[derive(Clone, Copy, Debug, PartialEq, Eq)]
@@ -15,7 +15,7 @@ pub enum RelativeId {
     After(u32),
 }
 
-/// An IRI by such ids; also the last ids once it was read.
+/// The ids of the last IRI before a term.
 #[derive(Clone, Copy, Debug, PartialEq, Eq)]
 pub struct Refs {
     pub prefix: RelativeId,
@@ -56,28 +56,6 @@ impl RelativeId {
         match self {
             RelativeId::Given(n) => 0 < n && n <= size,
             RelativeId::After(k) => 0 < k && k <= size,
-        }
-    }
-}
-
-impl Refs {
-    /// The last ids once an IRI was read.
-    #[inline]
-    pub(crate) fn after(self, iri: RawIri) -> Refs
-        requires { IsSmall self.name }
-        ensures { refs_seen result ≡ ids.refs_following (refs_seen self) (ids.refs_written (rows.ids_seen iri)) }
-    {
-        Refs {
-            prefix: if iri.prefix == 0 {
-                self.prefix
-            } else {
-                RelativeId::Given(iri.prefix)
-            },
-            name: if iri.name == 0 {
-                self.name.next()
-            } else {
-                RelativeId::Given(iri.name)
-            },
         }
     }
 }

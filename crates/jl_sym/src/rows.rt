@@ -6,7 +6,7 @@ ghost use Rattle.jl_rows.specs.Decoder as decoder;
 ghost use Rattle.jl_rows.specs.Seen as rows;
 ghost use Rattle.jl_rows.specs.Written as written;
 ghost use Rattle.jl_state.specs.Steps.{step};
-ghost use Rattle.jl_sym_laws.specs.Runs.{state_of};
+ghost use Rattle.jl_state.specs.Running.{state_of};
 ghost use Rattle.jl_sym.specs.Asking.{Grows};
 ghost use Rattle.jl_sym.specs.Checked.{options_of, IsHere};
 ghost use Rattle.jl_sym.specs.Growth.{IsFit};

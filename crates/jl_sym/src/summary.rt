@@ -1,16 +1,16 @@
 //! Summaries.
 use crate::demand::Demand;
 use crate::relative_id::{Refs, RelativeId};
-use jl_base::Span;
 use jl_rows::{RawTerm, Table};
+use jl_state::Extent;
 
 /// After so many rows of the run, this text went into the slot of this id.
-#[derive(Clone, Copy, Debug, PartialEq, Eq)]
+#[derive(Clone, Copy, Debug)]
 pub struct Write {
     pub moment: u32,
     pub table: Table,
     pub id: RelativeId,
-    pub text: Span,
+    pub text: Extent,
 }
 
 /// What a run leaves of a thing that is kept: the incoming one, nothing, or a term as a row wrote it, with the last ids

@@ -3,10 +3,9 @@ ghost use Rattle.std.specs.Prelude.{◌≤◌, ◌^◌, IfOk, length};
 ghost use Rattle.jl_base.specs.Limits.{most_bytes};
 ghost use Rattle.jl_rows.specs.Heads.{ArePassed};
 ghost use Rattle.jl_rows.specs.Seen.{options_seen};
-ghost use Rattle.jl_sym_laws.specs.Cutting.{IsMade};
 ghost use Rattle.jl_sym_laws.specs.Runs.{Summarises};
 ghost use Rattle.jl_tape.specs.Tapes.{HasRows, reading_of};
-ghost use Rattle.jl_sym.specs.Held.{HasSummary};
+ghost use Rattle.jl_sym.specs.Lawful.{IsLawful};
 ghost use Rattle.jl_sym.specs.Seen.{summary_seen};
 ghost use Rattle.jl_sym.specs.Sums.{SumsOn};
 
@@ -36,12 +35,11 @@ pub fn summarise_tape<'a>(
     requires few { length tape.now ≤ 2 ^ 30 }
     ensures sums { IfOk result (λ m. Summarises (options_seen bytes.now options.now) (reading_of bytes.now tape.now fault) (summary_seen bytes.now m)) }
     ensures acts { IfOk result (λ m. SumsOn (options_seen bytes.now options.now) (reading_of bytes.now tape.now fault) (summary_seen bytes.now m)) }
-    ensures made { IfOk result (λ m. IsMade (summary_seen bytes.now m)) }
-    ensures held { IfOk result (HasSummary bytes.now) }
+    ensures lawful { IfOk result (IsLawful (options_seen bytes.now options.now) bytes.now) }
     ensures rows { IfOk result (λ m. m.rows ≤ length tape.now) }
 {
     marks.start(options)?;
-    let mut growing = Growing::new(alloc);
+    let mut growing = Growing::new(alloc, tape.len());
     for i in 0..tape.len() {
         let placed = tape.at(i);
         let here = Here {

@@ -1,11 +1,17 @@
-ghost use Rattle.std.specs.Prelude.{◌<◌, ◌≤◌};
+ghost use Rattle.std.specs.Prelude.{◌≡◌, ◌<◌, ◌≤◌};
 
-use crate::{Demand, Kept, Left, Marks, Need, Position, Refs, RelativeId, Summary, summarise_tape};
-use jl_base::{Fault, Kind, Place, Span};
-use jl_rows::{GRAPHS, Options, QUADS, RawIri, RawTerm, TRIPLES, Table};
+use crate::{
+    Demand, Kept, Left, Marks, Need, Refs, RelativeId, Steps, Summary, summarise, summarise_tape,
+};
+use jl_base::{Fault, Kind, Place, Run, Space, Span};
+use jl_frames::index;
+use jl_rows::{GRAPHS, Head, Options, QUADS, RawIri, RawTerm, TRIPLES, Table, head};
+use jl_state::Position;
 use jl_tape::{Tape, read_frame};
 use std::alloc::Global;
+use std::marker::Brand;
 use std::process::Abort;
+use std::sync::ledger::{Blank, Ledger};
 use std::test::Fail;
 
 // The summary of these rows, as frame 2 of a file of this physical type with tables of eight.
@@ -224,5 +230,49 @@ fn a_fault_of_the_bytes_comes_after_the_rows(rt: HostRuntime) -> Result<(), Fail
             demand(1, Kind::EmptyRow, Need::Never),
         ],
     );
+    Ok(())
+}
+
+// A file of three frames: options of triples with tables of eight, one entry, two entries.
+const FILE: &[u8] = b"\
+    \x0E\x0A\x0C\x0A\x0A\x10\x01\x48\x08\x50\x08\x58\x08\x78\x01\
+    \x07\x0A\x05\x4A\x03\x12\x01p\
+    \x0E\x0A\x05\x4A\x03\x12\x01x\x0A\x05\x4A\x03\x12\x01y";
+
+// The summary of all frames after the first, and how many steps it took.
+fn rest_of_file<L: Ledger>(
+    rt: &impl Abort,
+    alloc: Global,
+    blank: Blank,
+) -> Result<(Summary, u64), Fail>
+    requires name { blank.name ≡ L.name }
+    requires parts { blank.parts ≡ L.parts }
+    requires some { 0 < blank.parts }
+{
+    let space = Space::from_bytes(alloc, FILE)?;
+    let frames = index(alloc, &space)?;
+    let Head::First(options, _) = head(&space) else {
+        return Err(Fail::new("no options"));
+    };
+    assert!(rt; space.bytes().len() < 1000);
+    assert_eq!(rt; frames.count(), 3);
+    assert_eq!(rt; frames.first(), 1);
+    let run = Run {
+        lo: 15,
+        hi: space.bytes().len() as u64,
+        first_frame: 2,
+        frames: 2,
+    };
+    let mut steps = Steps::<L>::new(blank);
+    let summary = summarise(alloc, &space, &frames, &options, run, &mut steps)?;
+    Ok((summary, steps.count()))
+}
+
+#[test]
+fn a_run_ticks_once_a_frame(rt: HostRuntime) -> Result<(), Fail> {
+    let (summary, steps) = rest_of_file::<Brand>(&rt, rt.alloc(), Blank::new(1))?;
+    assert_eq!(rt; steps, 2);
+    assert_eq!(rt; summary.rows, 3);
+    assert_eq!(rt; summary.name_entry, after(3));
     Ok(())
 }

@@ -4,6 +4,8 @@ use Rattle.jl_base.specs.declared.place.Fault.{Fault}
 use Rattle.jl_rows.specs.Files.{Placed}
 use Rattle.jl_rows.specs.Seen.{options_seen}
 use Rattle.jl_sym_laws.specs.Summaries.{Summary}
+use Rattle.jl_sym_laws.specs.Cutting.{IsMade}
+use Rattle.jl_sym_laws.proofs.Staying.{sums_settle}
 use Rattle.jl_tape.specs.declared.tape.PlacedRow.{PlacedRow}
 use Rattle.jl_tape.specs.Tapes.{placed_seen, reading_of}
 use Rattle.jl_sym.specs.Seen.{growing_seen, summary_seen}
@@ -50,8 +52,12 @@ returns-in-Err-Fault-clause-acts c =
 pub returns-in-Err-Fault-clause-sums : goal.returns-in-Err-Fault-clause-sums
 returns-in-Err-Fault-clause-sums c = sums_on_summarise (options_seen c.args.bytes.now c.args.options.now) (reading_of c.args.bytes.now c.args.tape.now c.args.fault) (summary_seen c.args.bytes.now c.finish.result) (returns-in-Err-Fault-clause-acts c)
 
-pub returns-in-Err-Fault-clause-held : goal.returns-in-Err-Fault-clause-held
-returns-in-Err-Fault-clause-held c = c.finish.ensures.held c.args.bytes.now c.in_ok-refuse-in-Err-Fault.ensures.held
+pub returns-in-Err-Fault-clause-lawful : goal.returns-in-Err-Fault-clause-lawful
+returns-in-Err-Fault-clause-lawful c = record {
+  made = subst IsMade (sym (c.finish.ensures.seen c.args.bytes.now)) c.in_ok-refuse-in-Err-Fault.ensures.made;
+  settles = sums_settle (options_seen c.args.bytes.now c.args.options.now) (reading_of c.args.bytes.now c.args.tape.now c.args.fault) (summary_seen c.args.bytes.now c.finish.result) (returns-in-Err-Fault-clause-acts c);
+  held = c.finish.ensures.held c.args.bytes.now c.in_ok-refuse-in-Err-Fault.ensures.held;
+}
 
 pub returns-in_ok-refuse-in-Some-clause-acts : goal.returns-in_ok-refuse-in-Some-clause-acts
 returns-in_ok-refuse-in-Some-clause-acts c =
@@ -67,8 +73,12 @@ returns-in_ok-refuse-in-Some-clause-acts c =
 pub returns-in_ok-refuse-in-Some-clause-sums : goal.returns-in_ok-refuse-in-Some-clause-sums
 returns-in_ok-refuse-in-Some-clause-sums c = sums_on_summarise (options_seen c.args.bytes.now c.args.options.now) (reading_of c.args.bytes.now c.args.tape.now c.args.fault) (summary_seen c.args.bytes.now c.finish-in-Some.result) (returns-in_ok-refuse-in-Some-clause-acts c)
 
-pub returns-in_ok-refuse-in-Some-clause-held : goal.returns-in_ok-refuse-in-Some-clause-held
-returns-in_ok-refuse-in-Some-clause-held c = c.finish-in-Some.ensures.held c.args.bytes.now c.in_ok-refuse-in-Some.ensures.held
+pub returns-in_ok-refuse-in-Some-clause-lawful : goal.returns-in_ok-refuse-in-Some-clause-lawful
+returns-in_ok-refuse-in-Some-clause-lawful c = record {
+  made = subst IsMade (sym (c.finish-in-Some.ensures.seen c.args.bytes.now)) c.in_ok-refuse-in-Some.ensures.made;
+  settles = sums_settle (options_seen c.args.bytes.now c.args.options.now) (reading_of c.args.bytes.now c.args.tape.now c.args.fault) (summary_seen c.args.bytes.now c.finish-in-Some.result) (returns-in_ok-refuse-in-Some-clause-acts c);
+  held = c.finish-in-Some.ensures.held c.args.bytes.now c.in_ok-refuse-in-Some.ensures.held;
+}
 
 pub returns-in-None-clause-acts : goal.returns-in-None-clause-acts
 returns-in-None-clause-acts c =
@@ -83,5 +93,9 @@ returns-in-None-clause-acts c =
 pub returns-in-None-clause-sums : goal.returns-in-None-clause-sums
 returns-in-None-clause-sums c = sums_on_summarise (options_seen c.args.bytes.now c.args.options.now) (reading_of c.args.bytes.now c.args.tape.now c.args.fault) (summary_seen c.args.bytes.now c.finish-in-None.result) (returns-in-None-clause-acts c)
 
-pub returns-in-None-clause-held : goal.returns-in-None-clause-held
-returns-in-None-clause-held c = c.finish-in-None.ensures.held c.args.bytes.now c.loop-i.invariant.fit.held
+pub returns-in-None-clause-lawful : goal.returns-in-None-clause-lawful
+returns-in-None-clause-lawful c = record {
+  made = subst IsMade (sym (c.finish-in-None.ensures.seen c.args.bytes.now)) c.loop-i.invariant.fit.made;
+  settles = sums_settle (options_seen c.args.bytes.now c.args.options.now) (reading_of c.args.bytes.now c.args.tape.now c.args.fault) (summary_seen c.args.bytes.now c.finish-in-None.result) (returns-in-None-clause-acts c);
+  held = c.finish-in-None.ensures.held c.args.bytes.now c.loop-i.invariant.fit.held;
+}

@@ -4,10 +4,10 @@ use Rattle.jl_state.proofs.Depths.{depth}
 use Rattle.jl_sym.proofs.asker.Asker.+ask.Given as goal
 
 abbrev pub decreases-inner : goal.decreases-inner
-decreases-inner l = 3 * depth (position_seen l.self.now.here.bytes.now l.raw.now) + 2
+decreases-inner l = 3 * depth (position_seen l.self.now.here.now.bytes.now l.raw.now) + 2
 
 abbrev pub decreases-any_term : goal.decreases-any_term
-decreases-any_term l = 3 * depth (term_seen l.self.now.here.bytes.now l.raw.now) + 1
+decreases-any_term l = 3 * depth (term_seen l.self.now.here.now.bytes.now l.raw.now) + 1
 
 abbrev pub decreases-three : goal.decreases-three
-decreases-three l = 3 * depth (nested_seen l.self.now.here.bytes.now l.terms.now)
+decreases-three l = 3 * depth (nested_seen l.self.now.here.now.bytes.now l.terms.now)

@@ -6,5 +6,5 @@ use Rattle.jl_sym.proofs.asker.Asker.ask.Goals as goal
 
 pub returns-then-has-clause-asks : goal.returns-then-has-clause-asks
 returns-then-has-clause-asks c =
-    asks_again (options_of c.args.self.now.here) c.args.self.now.moment c.args.self.now.here.place (demands_seen c.args.demands.now.items) c.args.kind (need_seen c.args.need)
+    asks_again (options_of c.args.self.now.here.now) c.args.self.now.moment c.args.self.now.here.now.place (demands_seen c.args.demands.now.items) c.args.kind (need_seen c.args.need)
     (c.requires.good.marked (need_seen c.args.need) _ (sym c.has.ensures ∙ c.if-has.true) refl (omega arith))

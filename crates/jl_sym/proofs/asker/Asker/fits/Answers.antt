@@ -13,13 +13,13 @@ use Rattle.jl_sym.proofs.asker.Asker.fits.Goals as goal
 
 pub returns-then-not-is_in-clause-asks : goal.returns-then-not-is_in-clause-asks
 returns-then-not-is_in-clause-asks c =
-    let here = c.args.self.now.here in
+    let here = c.args.self.now.here.now in
     let out : is_id_in (size_of (options_of here) c.args.table) (id_seen c.args.id) ≡ false = ap (λ n. is_id_in n (id_seen c.args.id)) (sym c.size_of.ensures) ∙ sym c.if-not-is_in.ensures in
     asks_never (options_of here) c.args.self.now.moment here.place (demands_seen c.args.demands.now.items) BadEntry (Need.Fits c.args.table (id_seen c.args.id)) c.requires.made out
 
 pub returns-in-Given-clause-asks : goal.returns-in-Given-clause-asks
 returns-in-Given-clause-asks c =
-    let here = c.args.self.now.here in
+    let here = c.args.self.now.here.now in
     let o = options_of here in
     let table = c.args.table in
     let ds = demands_seen c.args.demands.now.items in

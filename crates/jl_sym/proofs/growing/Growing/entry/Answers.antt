@@ -9,10 +9,10 @@ use Rattle.jl_base.specs.declared.kind.Kind.TheVariants.{BadEntry}
 use Rattle.jl_sym_laws.specs.Cutting.{IsMade, is_id_in}
 use Rattle.jl_sym.specs.declared.relative_id.RelativeId.{RelativeId}
 use Rattle.jl_sym.specs.Asking.{Asks, Grows}
-use Rattle.jl_sym.specs.Held.{AreInside}
+use Rattle.jl_sym.specs.Held.{AreTexts}
 use Rattle.jl_sym.specs.Checked.{options_of}
 use Rattle.jl_sym.specs.Seen.{id_seen, demands_seen, growing_seen}
-use Rattle.jl_sym.proofs.EntryLemmas.{entry_grows, entry_stopped, entry_made, entry_done, entry_fit, inside_push, last_seen, small_in, small_sizes}
+use Rattle.jl_sym.proofs.EntryLemmas.{entry_grows, entry_stopped, entry_made, entry_done, entry_fit, texts_push, last_seen, small_in, small_sizes}
 use Rattle.jl_sym.proofs.growing.Growing.entry.Goals as goal
 
 pub returns-in_err-fits-clause-grows : goal.returns-in_err-fits-clause-grows
@@ -32,7 +32,7 @@ returns-clause-grows c =
     let same : id_seen c.entry-id.result ≡ following (entry_in m c.args.table) (entry_written c.args.written)
     = c.entry-id.ensures ∙ ap (λ (x : RelativeId). following (id_seen x) (entry_written c.args.written)) c.last_entry.ensures ∙ ap (λ (i : Id). following i (entry_written c.args.written)) (last_seen c.args.here.now.bytes.now c.args.self.now c.args.table) in
     subst (λ (n : Summary). Grows o c.args.here.now.place (small_step (Small.Entry c.args.table c.args.written (text_of c.args.here.now.bytes.now c.args.text))) m n (Ok tt))
-    (sym (entry_done c.args.here.now.bytes.now c.args.self.now c.fits.new.demands c.push.new.self c.args.table c.args.written c.args.text c.entry-id.result c.set_entry.new.self c.set_entry.ensures o c.args.here.now.place c.requires.fit.made same c.in_ok-push.ensures.items))
+    (sym (entry_done c.args.here.now.bytes.now c.args.self.now c.fits.new.demands c.push.new.self c.args.table c.args.written c.args.text c.marked.result c.entry-id.result c.set_entry.new.self c.set_entry.ensures o c.args.here.now.place c.requires.fit.made same c.marked.ensures.text c.in_ok-push.ensures.items))
     (entry_grows o m c.args.here.now.place c.args.table c.args.written (text_of c.args.here.now.bytes.now c.args.text) c.requires.fit.made (demands_seen c.fits.new.demands.items) (rw same at c.in_ok-fits.ensures.asks))
 
 pub returns-clause-fit : goal.returns-clause-fit
@@ -42,7 +42,7 @@ returns-clause-fit c =
     let same : id_seen c.entry-id.result ≡ following (entry_in m c.args.table) (entry_written c.args.written)
     = c.entry-id.ensures ∙ ap (λ (x : RelativeId). following (id_seen x) (entry_written c.args.written)) c.last_entry.ensures ∙ ap (λ (i : Id). following i (entry_written c.args.written)) (last_seen c.args.here.now.bytes.now c.args.self.now c.args.table) in
     let inside : is_id_in (size_of o c.args.table) (id_seen c.entry-id.result) ≡ true = c.in_ok-fits.ensures.fits in
-    entry_fit c.args.here.now.bytes.now c.args.self.now c.fits.new.demands c.push.new.self c.args.table c.args.written c.args.text c.entry-id.result c.set_entry.new.self c.set_entry.ensures c.args.marks.now c.fits.new.marks
-    (small_in (size_of o c.args.table) c.entry-id.result inside (small_sizes c.args.here.now.bytes.now c.args.here.now.options.now c.args.table c.requires.here.options)) c.requires.fit c.in_ok-fits.ensures.good.marked (subst (AreInside c.args.here.now.bytes.now) (sym c.in_ok-push.ensures.items) (inside_push c.args.here.now.bytes.now c.args.self.now.writes.items _ c.requires.fit.held.writes c.requires.inside))
-    (subst IsMade (sym (entry_done c.args.here.now.bytes.now c.args.self.now c.fits.new.demands c.push.new.self c.args.table c.args.written c.args.text c.entry-id.result c.set_entry.new.self c.set_entry.ensures o c.args.here.now.place c.requires.fit.made same c.in_ok-push.ensures.items))
+    entry_fit c.args.here.now.bytes.now c.args.self.now c.fits.new.demands c.push.new.self c.args.table c.args.written c.args.text c.marked.result c.entry-id.result c.set_entry.new.self c.set_entry.ensures c.args.marks.now c.fits.new.marks
+    (small_in (size_of o c.args.table) c.entry-id.result inside (small_sizes c.args.here.now.bytes.now c.args.here.now.options.now c.args.table c.requires.here.options)) c.requires.fit c.in_ok-fits.ensures.good.marked (subst (AreTexts c.args.here.now.bytes.now) (sym c.in_ok-push.ensures.items) (texts_push c.args.here.now.bytes.now c.args.self.now.writes.items _ c.requires.fit.held.writes c.marked.ensures.sound c.marked.ensures.filled))
+    (subst IsMade (sym (entry_done c.args.here.now.bytes.now c.args.self.now c.fits.new.demands c.push.new.self c.args.table c.args.written c.args.text c.marked.result c.entry-id.result c.set_entry.new.self c.set_entry.ensures o c.args.here.now.place c.requires.fit.made same c.marked.ensures.text c.in_ok-push.ensures.items))
     (entry_made o m c.args.here.now.place c.args.table c.args.written (text_of c.args.here.now.bytes.now c.args.text) c.requires.fit.made (demands_seen c.fits.new.demands.items) c.in_ok-fits.ensures.good.good))

@@ -7,7 +7,7 @@ use Rattle.jl_rows.specs.Written.{Row}
 use Rattle.jl_rows.specs.Seen.{ids_seen}
 use Rattle.jl_state.specs.Steps.{step}
 use Rattle.jl_sym_laws.specs.SmallSteps.{Small, small_step}
-use Rattle.jl_sym_laws.specs.Runs.{state_of}
+use Rattle.jl_state.specs.Running.{state_of}
 use Rattle.jl_sym.specs.Asking.{Grows}
 use Rattle.jl_sym.specs.Checked.{options_of}
 use Rattle.jl_sym.specs.RowSteps.{last_step, namespace_on}

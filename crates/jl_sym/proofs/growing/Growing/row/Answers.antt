@@ -6,7 +6,7 @@ use Rattle.jl_rows.specs.declared.row.Row.TheVariants as codes
 use Rattle.jl_rows.specs.Decoder.{is_wrong_row}
 use Rattle.jl_rows.specs.Seen.{row_seen, position_seen}
 use Rattle.jl_state.specs.Steps.{step}
-use Rattle.jl_sym_laws.specs.Runs.{state_of}
+use Rattle.jl_state.specs.Running.{state_of}
 use Rattle.jl_sym_laws.specs.SmallSteps.{Small, small_step}
 use Rattle.jl_sym.specs.Asking.{Grows}
 use Rattle.jl_sym.specs.Checked.{options_of}

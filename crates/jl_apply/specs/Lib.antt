@@ -1,0 +1,4 @@
+pub mod Terms
+pub mod Incoming
+pub mod Playing
+pub mod Applying

@@ -1,0 +1,9 @@
+pub mod Lists
+pub mod Inside
+pub mod Addresses
+pub mod Needs
+pub mod Backward
+pub mod Forward
+pub mod DemandPass
+pub mod Fitting
+pub mod Asking

@@ -1,7 +1,7 @@
 -- Where the frames of an index lie, and stands in them.
-use Rattle.std.proofs.Common.{◌≡◌, ℕ, zero, suc, ◌+◌, ◌<◌, ◌≤◌, List, [], ◌∷◌, length, take, slice_get, Some, refl, ap, sym, ◌∙◌, subst, arith}
+use Rattle.std.proofs.Common.{◌≡◌, ℕ, ◌+◌, ◌<◌, ◌≤◌, slice_get, Some, arith}
 use Rattle.jl_base.specs.declared.place.Span.{Span}
-use Rattle.jl_frames.specs.Index.{Index, IsIndex, AreLaid, behind, end_of, last_end}
+use Rattle.jl_frames.specs.Index.{Index, AreLaid, behind, end_of}
 use Rattle.jl_frames.proofs.Stretches.{body_of, laid_order}
 use Rattle.jl_lines.specs.declared.stretch.Stand.{Stand}
 use Rattle.jl_lines.specs.Stretches.{IsStand, stand_at}

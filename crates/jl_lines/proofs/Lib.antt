@@ -9,3 +9,4 @@ pub mod Endings
 pub mod Pages
 pub mod Repeating
 pub mod RepeatingSteps
+pub mod Taping

@@ -1,14 +1,10 @@
 -- The rows of a stretch by its frames.
-use Rattle.std.proofs.Common.{◌≡◌, ℕ, zero, suc, ◌+◌, ◌-◌, ◌<◌, ◌≤◌, List, [], ◌∷◌, ◌++◌, length, map, take, drop, slice_get, slice_range, Option, Some, refl, ap, sym, ◌∙◌, arith}
-use Rattle.std.proofs.lemmas.List.{length-map, map-append, take-append-drop, take_all}
-use Rattle.jl_base.specs.Results.{Reading, joined}
-use Rattle.jl_base.specs.Spans.{text_of}
-use Rattle.jl_base.specs.declared.kind.Kind.{Kind}
+use Rattle.std.proofs.Common.{◌≡◌, ℕ, ◌+◌, ◌<◌, ◌≤◌, List, [], ◌∷◌, slice_get, slice_range, Some, refl, ap, sym, ◌∙◌, arith}
+use Rattle.jl_base.specs.Results.{Reading}
 use Rattle.jl_base.specs.declared.place.Fault.{Fault}
 use Rattle.jl_base.specs.declared.place.Span.{Span}
-use Rattle.jl_wire.proofs.Ranges.{length-range, drop-range, take-range}
-use Rattle.jl_rows.specs.Files.{Placed, all_rows, ends_at, frame_rows, frames, rows_from, rows_then}
-use Rattle.jl_frames.specs.Index.{Index, IsIndex}
+use Rattle.jl_rows.specs.Files.{Placed}
+use Rattle.jl_frames.specs.Index.{Index}
 use Rattle.jl_lines.specs.declared.stretch.Stand.{Stand}
 use Rattle.jl_frames.specs.Stretches.{between}
 use Rattle.jl_frames.proofs.Stretches.{range_next, range_none}

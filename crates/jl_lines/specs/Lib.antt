@@ -7,3 +7,4 @@ pub mod Writings
 pub mod Going
 pub mod Stretches
 pub mod Giving
+pub mod Taped

@@ -1,12 +1,12 @@
 //! The decoding of rows, one after another: the state after them, what was written of their items, and how many items
 //! they state.
-ghost use Rattle.std.specs.Prelude.{◌≡◌, [], ◌+◌, ◌<◌, ◌≤◌, ◌^◌, IfOk, OnOk, length};
+ghost use Rattle.std.specs.Prelude.{◌≡◌, ℕ, List, [], ◌+◌, ◌<◌, ◌≤◌, ◌^◌, IfOk, OnOk, length};
 ghost use Rattle.jl_base.specs.Limits.{most_bytes};
 ghost use Rattle.jl_rows.specs.Heads.{ArePassed};
 ghost use Rattle.jl_state.specs.States.{opening};
 ghost use Rattle.jl_rows.specs.Seen.{options_seen, row_seen, HasRow};
 ghost use Rattle.jl_state.specs.Steps.{step};
-ghost use Rattle.jl_state.specs.Lawful.{state_seen};
+ghost use Rattle.jl_state.specs.Lawful.{state_seen, IsLawful};
 ghost use Rattle.jl_lines.specs.Kept.{Keeps};
 ghost use Rattle.jl_lines.specs.Counts.{none_counted};
 ghost use Rattle.jl_lines.specs.Going.{TakesRow, counted};
@@ -18,6 +18,7 @@ use jl_base::Fault;
 use jl_rows::{Options, Row};
 use jl_state::{State, Stated, Stop};
 use std::alloc::{AllocError, Global};
+use std::mem;
 
 /// How many bytes of lines are handed to the sink at once, or somewhat more.
 const LONG: usize = 1 << 17;
@@ -63,16 +64,58 @@ impl Decoding {
         ensures writing { IfOk result (λ d. d.writing ≡ writing) }
     {
         let state = State::opening(alloc, bytes, options)?;
+        Ok(Decoding::from_state(alloc, state, writing))
+    }
+
+    /// A decoding that goes on from a state, with nothing made yet. Takes no memory.
+    pub fn from_state(alloc: Global, state: State, writing: Writing) -> Decoding
+        ensures kept { (bytes : List ℕ) → IsLawful bytes state → Keeps bytes result }
+        ensures state { result.state ≡ state }
+        ensures empty { result.page.lines ≡ [] }
+        ensures none { result.counts ≡ none_counted }
+        ensures writing { result.writing ≡ writing }
+    {
         let counts = Counts {
             statements: 0,
             namespaces: 0,
         };
-        Ok(Decoding {
+        Decoding {
             state,
             page: Page::new(alloc),
             counts,
             writing,
-        })
+        }
+    }
+
+    /// Begins anew from the state as it stands, whoever changed it: what was made is forgotten, and the page's memory is
+    /// used again.
+    pub fn restart(&mut self)
+        ensures kept { (bytes : List ℕ) → IsLawful bytes self.old.state → Keeps bytes self.new }
+        ensures state { self.new.state ≡ self.old.state }
+        ensures empty { self.new.page.lines ≡ [] }
+        ensures none { self.new.counts ≡ none_counted }
+        ensures writing { self.new.writing ≡ self.old.writing }
+    {
+        self.page.clear();
+        self.counts = Counts {
+            statements: 0,
+            namespaces: 0,
+        };
+    }
+
+    /// Hands out the page with its lines, and goes on with another one, whose lines are forgotten and whose memory is
+    /// used.
+    pub fn change_page(&mut self, page: Page) -> Page
+        ensures page { result ≡ self.old.page }
+        ensures kept { (bytes : List ℕ) → IsLawful bytes self.old.state → Keeps bytes self.new }
+        ensures state { self.new.state ≡ self.old.state }
+        ensures empty { self.new.page.lines ≡ [] }
+        ensures counts { self.new.counts ≡ self.old.counts }
+        ensures writing { self.new.writing ≡ self.old.writing }
+    {
+        let mut next = page;
+        next.clear();
+        mem::replace(&mut self.page, next)
     }
 
     // One row's items.

@@ -18,6 +18,7 @@ mod page;
 mod placing;
 mod statement;
 mod stretch;
+mod taped;
 #[cfg(test)]
 mod tests;
 mod waves;
@@ -25,6 +26,8 @@ mod write;
 mod writing;
 
 pub use count::count_items;
-pub use decoding::Refused;
+pub use decoding::{Counts, Decoding, Refused};
 pub use file::Tally;
+pub use page::Page;
 pub use write::{Ended, write_lines};
+pub use writing::Writing;

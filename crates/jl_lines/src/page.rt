@@ -1,5 +1,5 @@
 //! The lines that were written and not given yet.
-ghost use Rattle.std.specs.Prelude.{◌≡◌, [], ◌++◌, IsTrue, OnOk};
+ghost use Rattle.std.specs.Prelude.{◌≡◌, [], ◌++◌, IsTrue, OnOk, length};
 ghost use Rattle.jl_base.specs.Spans.{IsInside, text_of};
 ghost use Rattle.jl_base.specs.Terms.{Namespace};
 ghost use Rattle.jl_text.specs.Line.{line};
@@ -74,7 +74,9 @@ impl Page {
 
     /// How many bytes the lines have.
     #[inline]
-    pub fn len(&self) -> usize {
+    pub fn len(&self) -> usize
+        ensures { result ≡ length self.now.lines }
+    {
         self.last.end
     }
 
@@ -88,7 +90,7 @@ impl Page {
 
     /// Forgets what is kept of the last line.
     #[inline]
-    pub fn forget(&mut self)
+    pub(crate) fn forget(&mut self)
         ensures lines { self.new.lines ≡ self.old.lines }
         ensures kept { KeepsNone self.new }
     {
@@ -97,7 +99,7 @@ impl Page {
 
     /// Appends the line of the state's last terms. What these repeat of the last line is told.
     #[inline]
-    pub fn statement(
+    pub(crate) fn statement(
         &mut self,
         bytes: &[u8],
         state: &State,
@@ -124,7 +126,7 @@ impl Page {
     }
 
     /// Appends the line of a namespace's declaration, by where its name lies and the two parts of its IRI.
-    pub fn namespace(
+    pub(crate) fn namespace(
         &mut self,
         bytes: &[u8],
         name: Span,

@@ -1,0 +1,4 @@
+pub mod Triples
+pub mod Pushing
+pub mod Taking
+pub mod Decoding

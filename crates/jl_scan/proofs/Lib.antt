@@ -1,0 +1,9 @@
+pub mod BlockLemmas
+pub mod CostLemmas
+pub mod WalkLength
+pub mod CellLemmas
+pub mod AskedLemmas
+pub mod WorkedRows
+pub mod FieldLemmas
+pub mod KnownLemmas
+pub mod ReachLemmas

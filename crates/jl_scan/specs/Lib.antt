@@ -1,0 +1,9 @@
+pub mod Blocks
+pub mod Walk
+pub mod Costs
+pub mod Laws
+pub mod Fields
+pub mod Files
+pub mod Reaching
+pub mod Founds
+pub mod FieldLaws

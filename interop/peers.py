@@ -14,7 +14,9 @@ import tempfile
 from program import Program, Tally
 
 HERE = os.path.dirname(os.path.abspath(__file__))
-ENCODER = os.path.join(os.path.dirname(HERE), "crates/encode_made/out/encode_made")
+CRATES = os.path.join(os.path.dirname(HERE), "crates")
+ENCODER = os.path.join(CRATES, "encode_made/out/encode_made")
+SUMMARIES = os.path.join(CRATES, "try_summaries/out/try_summaries")
 
 
 def protobuf_is_there(tally, folder):
@@ -58,6 +60,7 @@ def main():
     words = argparse.ArgumentParser(prog="interop/run", description="Holds jellyp against programs that nobody here wrote.")
     words.add_argument("binary", metavar="BINARY")
     words.add_argument("--encoder", default=ENCODER, help="the program that encodes made items (%(default)s)")
+    words.add_argument("--summaries", default=SUMMARIES, help="the program that tries summaries on files (%(default)s)")
     words.add_argument("--seed", default="1", help="what all files are made from (1)")
     words.add_argument("--files", type=int, default=2000, help="how many Jelly files are made, and how many damaged (2000)")
     words.add_argument("--texts", type=int, default=60, help="how many texts rapper and serdi read (60)")
@@ -74,10 +77,12 @@ def main():
             import jelly_peer
             import made_peer
             import nquads_peer
+            import summaries_peer
             faults.run(program, commands, tally)
             jelly_peer.run(program, commands, tally, words.seed, words.files)
             made_peer.run(program, os.path.abspath(words.encoder), tally)
             damage.run(program, commands, tally, words.seed, words.files)
+            summaries_peer.run(os.path.abspath(words.summaries), tally, words.seed, words.files // 5, folder)
             readers = there(tally, [("rapper", "raptor2-utils"), ("serdi", "serdi")])
             if readers:
                 nquads_peer.run(program, readers, tally, words.seed, words.texts, folder)

@@ -1,0 +1,15 @@
+use Rattle.std.proofs.Common.{◌≡◌, ◌-◌, ◌≤◌, length}
+use Rattle.jl_rows.specs.Seen.{options_seen}
+use Rattle.jl_compose.specs.Blocks.{all_rows, AreLawful, IsBounded}
+use Rattle.try_summaries.proofs.check.in_blocks.Given as goal
+
+abbrev pub invariant-by_run : goal.invariant-by_run
+invariant-by_run l = record {
+  within : l.before ≤ length l.given.frames.now.bodies;
+  lawful : AreLawful (options_seen l.given.bytes.now l.given.options.now) l.given.bytes.now l.whole.leaves.items;
+  bounded : IsBounded (options_seen l.given.bytes.now l.given.options.now) l.whole.leaves.items;
+  rows : all_rows l.whole.leaves.items ≡ l.rows;
+}
+
+abbrev pub decreases-by_run : goal.decreases-by_run
+decreases-by_run l = length l.given.frames.now.bodies - l.before

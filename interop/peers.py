@@ -63,6 +63,7 @@ def main():
     words.add_argument("--summaries", default=SUMMARIES, help="the program that tries summaries on files (%(default)s)")
     words.add_argument("--seed", default="1", help="what all files are made from (1)")
     words.add_argument("--files", type=int, default=2000, help="how many Jelly files are made, and how many damaged (2000)")
+    words.add_argument("--again", type=int, default=1000, help="how often several workers decode one file (1000)")
     words.add_argument("--texts", type=int, default=60, help="how many texts rapper and serdi read (60)")
     words.add_argument("--keep", default="/tmp/jellyp-interop", help="where the files of failures are kept")
     words = words.parse_args()
@@ -78,11 +79,13 @@ def main():
             import made_peer
             import nquads_peer
             import summaries_peer
+            import workers_peer
             faults.run(program, commands, tally)
             jelly_peer.run(program, commands, tally, words.seed, words.files)
             made_peer.run(program, os.path.abspath(words.encoder), tally)
             damage.run(program, commands, tally, words.seed, words.files)
             summaries_peer.run(os.path.abspath(words.summaries), tally, words.seed, words.files // 5, folder)
+            workers_peer.run(program, commands, tally, words.seed, words.files // 20, words.again)
             readers = there(tally, [("rapper", "raptor2-utils"), ("serdi", "serdi")])
             if readers:
                 nquads_peer.run(program, readers, tally, words.seed, words.texts, folder)

@@ -3,13 +3,14 @@
 #     source docs/completion/jellyp.bash
 #
 # The first word is completed to a command. What begins with -- is completed to an option of that command and its value,
-# and after the options a word is completed to a file or a folder.
+# and after the options a word is completed to a file or a folder, as is what comes after --out=.
 # shellcheck shell=bash
 
 # The options of a command. After each stand its values, where there are few.
 _jellyp_options() {
     case $1 in
-        nquads | validate) echo "--strict= 0 1" ;;
+        nquads) printf '%s\n' "--workers=" "--run=" "--strict= 0 1" "--out=" ;;
+        validate) printf '%s\n' "--workers=" "--run=" "--strict= 0 1" ;;
     esac
 }
 
@@ -70,7 +71,10 @@ _jellyp() {
         [[ -z $ended && $part == --* ]] || return
         [[ $part != -- ]] || ended=yes
     done
-    if [[ -z $ended && $word == --* ]]; then
+    if [[ -z $ended && $word == --out=* ]]; then
+        compopt -o filenames 2>/dev/null
+        mapfile -t COMPREPLY < <(compgen -f -P --out= -- "${word#--out=}")
+    elif [[ -z $ended && $word == --* ]]; then
         _jellyp_option "$word" "${words[@]}"
     else
         _jellyp_file "$word"

@@ -1,6 +1,6 @@
 -- The job that the words of a command line ask for. The program's name isn't among them.
-use Rattle.std.specs.Prelude.{ℕ, ◌+◌, ◌≤◌, Bool, false, not, ◌==◌, ◌&&◌, nat_le, List, [], ◌∷◌, length, take, drop, Option, Some, None, is_some, codes, if◌then◌else◌}
-use Rattle.std.specs.Option.{option_map, unwrap_or}
+use Rattle.std.specs.Prelude.{ℕ, ◌+◌, ◌≤◌, Bool, false, not, ◌==◌, ◌&&◌, nat_le, List, [], ◌∷◌, length, take, drop, Option, Some, None, is_some, slice_get, codes, if◌then◌else◌}
+use Rattle.std.specs.Option.{option_and_then, option_map, unwrap_or}
 use Rattle.std.specs.Str.{bytes_eq}
 use Rattle.std.specs.List.{starts_with, list_all, list_any, find, count_by, position}
 use Rattle.jl_words.specs.declared.command.Command.{Command}
@@ -117,6 +117,11 @@ job_of (command ∷ words) = asked (command_of command) words
 abbrev pub files_of : List (List ℕ) → Option Job → List (List ℕ)
 files_of words None = []
 files_of words (Some job) = drop job.first words
+
+-- what the job's output is named, where a word names it
+abbrev pub output_of : List (List ℕ) → Option Job → Option (List ℕ)
+output_of words None = None
+output_of words (Some job) = option_map (value_in Out) (option_and_then (slice_get words) job.out)
 
 -- there are as many as the command has files
 abbrev pub IsAsMany : Taken → List (List ℕ) → Type 0

@@ -24,8 +24,8 @@ abbrev pub commands : List Command
 commands = Nquads ∷ Validate ∷ Inspect ∷ []
 
 abbrev pub line_of : Command → Taken
-line_of Nquads = taken (codes "nquads") (Strict ∷ []) [] 1 1
-line_of Validate = taken (codes "validate") (Strict ∷ []) [] 1 1
+line_of Nquads = taken (codes "nquads") (Workers ∷ Run ∷ Strict ∷ Out ∷ []) [] 1 1
+line_of Validate = taken (codes "validate") (Workers ∷ Run ∷ Strict ∷ []) [] 1 1
 line_of Inspect = taken (codes "inspect") [] [] 1 1
 
 -- What the word of an option begins with, up to its first `=`. The value is the rest of the word.

@@ -1,12 +1,12 @@
 -- Words worked by hand.
-use Rattle.std.specs.Prelude.{◌≡◌, ℕ, Bool, true, false, List, [], ◌∷◌, Some, None, is_none, codes}
+use Rattle.std.specs.Prelude.{◌≡◌, ℕ, Bool, true, false, List, [], ◌∷◌, Option, Some, None, is_none, codes}
 use Rattle.std.specs.List.{list_all, list_any}
 use Rattle.jl_words.specs.declared.command.Command.{Command}
 use Rattle.jl_words.specs.declared.command.Command.TheVariants.{Nquads, Validate, Inspect}
 use Rattle.jl_words.specs.declared.command.Job.{Job}
 use Rattle.jl_words.specs.declared.table.Setting.TheVariants.{Workers, Run, Per, Number, Out}
 use Rattle.jl_words.specs.Table.{Taken, taken}
-use Rattle.jl_words.specs.Jobs.{are_options, number_of, job_of}
+use Rattle.jl_words.specs.Jobs.{are_options, number_of, job_of, output_of}
 
 -- what no command takes
 abbrev pub none : List (List (List ℕ))
@@ -28,6 +28,10 @@ none =
     ∷ (codes "nquads" ∷ codes "--strict=1" ∷ codes "--strict=1" ∷ codes "f" ∷ [])
     ∷ (codes "nquads" ∷ codes "--strict=1" ∷ codes "--strict=0" ∷ codes "f" ∷ [])
     ∷ (codes "nquads" ∷ codes "--workers=0" ∷ codes "f" ∷ [])
+    ∷ (codes "nquads" ∷ codes "--workers=65" ∷ codes "f" ∷ [])
+    ∷ (codes "nquads" ∷ codes "--run=65537" ∷ codes "f" ∷ [])
+    ∷ (codes "nquads" ∷ codes "--out=" ∷ codes "f" ∷ [])
+    ∷ (codes "validate" ∷ codes "--out=x" ∷ codes "f" ∷ [])
     ∷ (codes "nquads" ∷ codes "--run=07" ∷ codes "f" ∷ [])
     ∷ (codes "nquads" ∷ codes "--run=1" ∷ codes "--run=1" ∷ codes "f" ∷ [])
     ∷ (codes "nquads" ∷ codes "--" ∷ [])
@@ -68,6 +72,15 @@ abbrev pub AfterOptions : Type 0
 AfterOptions = (job_of (codes "nquads" ∷ codes "--" ∷ codes "--f" ∷ []) ≡ Some (plain Nquads false 2))
     × (job_of (codes "inspect" ∷ codes "--" ∷ codes "--" ∷ []) ≡ Some (plain Inspect false 2))
     × (job_of (codes "validate" ∷ codes "--strict=1" ∷ codes "--" ∷ codes "--strict=1" ∷ []) ≡ Some (plain Validate true 3))
+
+-- workers, runs and an output, in any order
+abbrev pub several : ℕ → ℕ → Option ℕ → ℕ → Job
+several workers run out first = record (plain Nquads false first) { workers = workers; run = run; out = out }
+
+abbrev pub SeveralOptions : Type 0
+SeveralOptions = (job_of (codes "nquads" ∷ codes "--workers=8" ∷ codes "--run=1" ∷ codes "f" ∷ []) ≡ Some (several 8 1 None 3))
+    × (job_of (codes "nquads" ∷ codes "--run=65536" ∷ codes "--out=a=b" ∷ codes "--workers=64" ∷ codes "f" ∷ []) ≡ Some (several 64 65536 (Some 2) 4))
+    × (output_of (codes "nquads" ∷ codes "--out=a=b" ∷ codes "f" ∷ []) (Some (several 4 16 (Some 1) 2)) ≡ Some (codes "a=b"))
 
 -- a command with more options, of which one has to be given
 abbrev pub made : Taken

@@ -14,7 +14,7 @@ mod words;
 
 pub use command::{Command, Job};
 pub use laws::worked_words;
-pub use words::{files, job};
+pub use words::{files, job, output};
 
 #[cfg(test)]
 mod tests;

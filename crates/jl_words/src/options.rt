@@ -16,7 +16,8 @@ fn gives(setting: Setting, word: &[u8]) -> bool
     word.starts_with(beginning(setting))
 }
 
-fn value_in(setting: Setting, word: &[u8]) -> &[u8]
+/// The value in a word of this option.
+pub fn value_in(setting: Setting, word: &[u8]) -> &[u8]
     ensures { result.now ≡ spec.value_in setting word.now }
 {
     match word.get(beginning(setting).len()..) {

@@ -45,8 +45,25 @@ pub fn line_of(command: Command) -> Line
     ensures { spec.seen result ≡ spec.line_of command }
 {
     match command {
-        Command::Nquads => taken(b"nquads", &[Setting::Strict], &[], 1, 1),
-        Command::Validate => taken(b"validate", &[Setting::Strict], &[], 1, 1),
+        Command::Nquads => taken(
+            b"nquads",
+            &[
+                Setting::Workers,
+                Setting::Run,
+                Setting::Strict,
+                Setting::Out,
+            ],
+            &[],
+            1,
+            1,
+        ),
+        Command::Validate => taken(
+            b"validate",
+            &[Setting::Workers, Setting::Run, Setting::Strict],
+            &[],
+            1,
+            1,
+        ),
         Command::Inspect => taken(b"inspect", &[], &[], 1, 1),
     }
 }

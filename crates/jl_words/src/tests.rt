@@ -29,7 +29,7 @@ fn plain(command: Command, strict: bool, first: usize) -> Option<Job> {
 #[test]
 fn faulty_command_lines(rt: HostRuntime) -> Result<(), Fail> {
     let alloc = rt.alloc();
-    let rows: [&[&str]; 26] = [
+    let rows: [&[&str]; 30] = [
         &[],
         &["", "f"],
         &["wave", "f"],
@@ -48,6 +48,10 @@ fn faulty_command_lines(rt: HostRuntime) -> Result<(), Fail> {
         &["nquads", "--strict", "f"],
         &["nquads", "--strict=1", "--strict=1", "f"],
         &["nquads", "--workers=0", "f"],
+        &["nquads", "--workers=65", "f"],
+        &["nquads", "--run=65537", "f"],
+        &["nquads", "--out=", "f"],
+        &["validate", "--out=x", "f"],
         &["nquads", "--run=07", "f"],
         &["nquads", "--run=1", "--run=1", "f"],
         &["nquads", "--"],
@@ -89,5 +93,29 @@ fn jobs_of_words(rt: HostRuntime) -> Result<(), Fail> {
         assert_eq!(rt; job(&words), plain(command, strict, first));
         assert_eq!(rt; files(&words).len(), 1);
     }
+    Ok(())
+}
+
+#[test]
+fn workers_runs_and_an_output(rt: HostRuntime) -> Result<(), Fail> {
+    let alloc = rt.alloc();
+    let words = texts(
+        alloc,
+        &["nquads", "--run=1", "--out=a=b", "--workers=64", "f"],
+    )?;
+    let several = Job {
+        command: Command::Nquads,
+        workers: 64,
+        run: 1,
+        items: 0,
+        per: 256,
+        number: 0,
+        strict: false,
+        out: Some(2),
+        first: 4,
+    };
+    assert_eq!(rt; job(&words), Some(several));
+    assert_eq!(rt; output(&words), Some(b"a=b".as_slice()));
+    assert_eq!(rt; output(&texts(alloc, &["nquads", "f"])?), None);
     Ok(())
 }

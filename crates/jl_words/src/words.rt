@@ -1,10 +1,11 @@
 //! The words of a command line.
 ghost use Rattle.std.specs.Prelude.{◌≡◌, ◌<◌, ◌≤◌, ◌==◌, not, length, IfSome, IsTrue};
 ghost use Rattle.std.specs.List.{list_all, position};
+ghost use Rattle.std.specs.Option.{option_map};
 ghost use Rattle.jl_words.specs.Jobs as spec;
 ghost use Rattle.jl_words.specs.Table.{line_of, seen};
 
-use crate::options::{are_options, number_of, place_of};
+use crate::options::{are_options, number_of, place_of, value_in};
 use crate::table::{COMMANDS, Line, Setting, line_of};
 use crate::{Command, Job};
 use jl_base::Text;
@@ -77,6 +78,7 @@ fn are_files(line: &Line, words: &[Text]) -> bool
 fn job_with(command: Command, options: &[Text], first: usize) -> Job
     ensures exact { result ≡ spec.job_with command options.now first }
     ensures run { 0 < result.run }
+    ensures workers { (0 < result.workers) × (result.workers ≤ 64) }
 {
     Job {
         command,
@@ -97,6 +99,7 @@ pub fn job(words: &[Text]) -> Option<Job>
     ensures files { IfSome result (λ job. job.first ≤ length words.now) }
     ensures number { IfSome result (λ job. spec.IsAsMany (line_of job.command) (spec.files_of words.now (Some job))) }
     ensures run { IfSome result (λ job. 0 < job.run) }
+    ensures workers { IfSome result (λ job. (0 < job.workers) × (job.workers ≤ 64)) }
 {
     let (command, words) = words.split_first()?;
     let command = command_of(command.bytes())?;
@@ -107,6 +110,14 @@ pub fn job(words: &[Text]) -> Option<Job>
         return None;
     }
     Some(job_with(command, options, before + 1))
+}
+
+/// The name of the job's output, where a word gives one: else it is standard output. Takes no memory.
+pub fn output(words: &[Text]) -> Option<&[u8]>
+    ensures { option_map (λ name. name.now) result ≡ spec.output_of words.now (spec.job_of words.now) }
+{
+    let word = words.get(job(words)?.out?)?;
+    Some(value_in(Setting::Out, word.bytes()))
 }
 
 /// The words that name the files of the job, in order, and none where there is no job. Takes no memory.

@@ -8,11 +8,13 @@ ghost use Rattle.std.specs.Prelude.{◌≡◌, length, map, drop, vec_len, strin
 ghost use Rattle.std.specs.IoError.{error_kind};
 ghost use Rattle.jellyp.specs.declared.Refusal.TheVariants.{NoMemory};
 ghost use Rattle.jellyp.specs.Refusals.{IsRefusedFor, status_of};
+ghost use Rattle.jl_io.specs.FileShelves.{place_of};
 ghost use Rattle.jl_io.specs.FileSources.{name_of};
+ghost use Rattle.jl_words.specs.Jobs.{job_of, output_of};
 
 use jl_base::Text;
 use jl_io::{ErrSink, FileShelf, FileSource};
-use jl_top::{Gate, files, serve};
+use jl_top::{Gate, files, output, serve};
 use std::alloc::{AllocError, Global};
 use std::process::ExitCode;
 use std::rt::{Files, Runtime};
@@ -90,12 +92,26 @@ fn sources<'a, R: Files>(
     Ok(sources)
 }
 
+// The shelf of the output that the words name, or of standard output.
+fn shelf<'a, R: Files + Print>(
+    rt: &'a R,
+    alloc: Global,
+    words: &[Text],
+) -> Result<FileShelf<&'a R>, AllocError>
+    ensures { IfOk result (λ shelf. place_of shelf ≡ record { name = output_of words.now (job_of words.now); parts = false; part = 1 }) }
+{
+    match output(words) {
+        Some(name) => FileShelf::new(rt, alloc, Some(Text::from_bytes(alloc, name)?), false),
+        None => FileShelf::new(rt, alloc, None, false),
+    }
+}
+
 fn run<R: Runtime + AllocGlobal + Threads + Sync>(rt: &R) -> Result<u8, Refusal> {
     let alloc = rt.alloc();
     let arguments: Vec<String> = env::args(rt)?.collect(alloc)?;
     let words = words(alloc, &arguments)?;
     let mut sources = sources(rt, alloc, files(&words))?;
-    let mut out = FileShelf::new(rt, alloc, None, false)?;
+    let mut out = shelf(rt, alloc, &words)?;
     let mut err = ErrSink::new(rt);
     Ok(serve(rt, alloc, &words, &mut sources, &mut out, &mut err, &Open))
 }

@@ -12,7 +12,7 @@ mod run;
 mod top;
 
 pub use gate::Gate;
-pub use jl_words::{Command, Job, files, job};
+pub use jl_words::{Command, Job, files, job, output};
 pub use top::serve;
 
 #[cfg(test)]

@@ -2,6 +2,7 @@ ghost use Rattle.std.specs.Prelude.{◌≤◌};
 
 mod rows;
 mod strict;
+mod workers;
 
 use super::*;
 use jl_base::Text;
@@ -72,7 +73,19 @@ fn served<R: Threads + Sync>(
     alloc: Global,
     words: &[&str],
     file: &[u8],
+    fails: [&[u64]; 3],
+) -> Result<Left, AllocError> {
+    served_by(rt, alloc, words, file, fails, &Open)
+}
+
+// The same with a gate.
+fn served_by<R: Threads + Sync, G: Gate>(
+    rt: &R,
+    alloc: Global,
+    words: &[&str],
+    file: &[u8],
     [reads, writes, tells]: [&[u64]; 3],
+    gate: &G,
 ) -> Result<Left, AllocError> {
     let words = texts(alloc, words)?;
     let mut sources = Vec::new(alloc);
@@ -81,19 +94,27 @@ fn served<R: Threads + Sync>(
     }
     let mut out = MemShelf::new(alloc, 5, ROOM, 0, writes)?;
     let mut err = MemShelf::new(alloc, 5, ROOM, 0, tells)?;
-    let status = serve(rt, alloc, &words, &mut sources, &mut out, &mut err, &Open);
+    let status = serve(rt, alloc, &words, &mut sources, &mut out, &mut err, gate);
     Ok(Left { status, out, err })
 }
 
 #[test]
 fn worked_files(rt: HostRuntime) -> Result<(), Fail> {
     let alloc = rt.alloc();
+    let words: [&[&str]; 4] = [
+        NQUADS,
+        &["nquads", "--workers=1", "f"],
+        &["nquads", "--workers=4", "--run=1", "f"],
+        &["nquads", "--run=2", "--workers=8", "f"],
+    ];
     for row in &ROWS {
         let file = bytes_of(alloc, row.file)?;
-        let left = served(&rt, alloc, NQUADS, &file, [&[], &[], &[]])?;
-        assert_eq!(rt; left.status, row.status, "at {}", row.name);
-        assert_eq!(rt; left.out.under_way(), row.out.as_bytes(), "at {}", row.name);
-        assert_eq!(rt; left.err.under_way(), row.err.as_bytes(), "at {}", row.name);
+        for words in words {
+            let left = served(&rt, alloc, words, &file, [&[], &[], &[]])?;
+            assert_eq!(rt; left.status, row.status, "at {}", row.name);
+            assert_eq!(rt; left.out.under_way(), row.out.as_bytes(), "at {}", row.name);
+            assert_eq!(rt; left.err.under_way(), row.err.as_bytes(), "at {}", row.name);
+        }
     }
     Ok(())
 }
@@ -111,12 +132,15 @@ fn fault_in_fourth_of_ninety_frames(rt: HostRuntime) -> Result<(), Fail> {
         push_bytes(&mut file, REPEATED)?;
     }
     push_bytes(&mut file, "040a021a00")?;
-    let left = served(&rt, alloc, NQUADS, &file, [&[], &[], &[]])?;
-    assert_eq!(rt; left.status, 1);
-    let lines = b"<a> <a> <a> .\n<a> <a> <a> .\n<a> <a> <a> .\n".as_slice();
-    assert_eq!(rt; left.out.under_way(), lines);
-    let line = b"jellyp: malformed: file 1, frame 4, row 2: NoEntry\n".as_slice();
-    assert_eq!(rt; left.err.under_way(), line);
+    let eight: &[&str] = &["nquads", "--workers=8", "--run=1", "f"];
+    for words in [NQUADS, eight] {
+        let left = served(&rt, alloc, words, &file, [&[], &[], &[]])?;
+        assert_eq!(rt; left.status, 1);
+        let lines = b"<a> <a> <a> .\n<a> <a> <a> .\n<a> <a> <a> .\n".as_slice();
+        assert_eq!(rt; left.out.under_way(), lines);
+        let line = b"jellyp: malformed: file 1, frame 4, row 2: NoEntry\n".as_slice();
+        assert_eq!(rt; left.err.under_way(), line);
+    }
     Ok(())
 }
 

@@ -90,9 +90,10 @@ second_leads o H xs Q (Ok t) e h = (
 second_leads o H xs Q (Err fault) e h =
     fault_both o H xs Q.items Q.fault ∙ ap (λ (f : Option Fault). option_or f (decoded o (history_after xs H) Q.items Q.fault).fault) e ∙ h
 
-both_lead : (o : StreamOptions) (H : History) (xs : List Placed) (fault : Option Fault) (Q : Reading Placed Fault) (x : Result State Fault) (f : State → Result State Fault)
-    → Leads o H (reading_of xs fault) x → ((t : State) → Stands o t (history_after xs H) → Leads o (history_after xs H) Q (f t)) → Leads o H (followed xs fault Q) (x >>= f)
-both_lead o H xs None Q (Ok t) f h go = second_leads o H xs Q (f t) h.0 (go t h.1)
+-- the second run goes on from where the first one led to
+pub both_lead : (o : StreamOptions) (H : History) (xs : List Placed) (fault : Option Fault) (Q : Reading Placed Fault) (x : Result State Fault) (f : State → Result State Fault)
+    → Leads o H (reading_of xs fault) x → ((t : State) → x ≡ Ok t → Stands o t (history_after xs H) → Leads o (history_after xs H) Q (f t)) → Leads o H (followed xs fault Q) (x >>= f)
+both_lead o H xs None Q (Ok t) f h go = second_leads o H xs Q (f t) h.0 (go t refl h.1)
 both_lead o H xs None Q (Err e) f h go = fault_both o H xs Q.items Q.fault ∙ ap (λ (d : Option Fault). option_or d (decoded o (history_after xs H) Q.items Q.fault).fault) h
 both_lead o H xs (Some e) Q (Ok t) f h go = absurd (or_some (decoded o H xs None).fault e (sym (fault_ends o H xs (Some e)) ∙ h.0))
 both_lead o H xs (Some e) Q (Err d) f h go = h
@@ -100,4 +101,4 @@ both_lead o H xs (Some e) Q (Err d) f h go = h
 pub joined_summarise : JoinedSummarise
 joined_summarise o R Q a b timed h k H s stands =
     subst (Leads o H (joined R Q)) (sym (composes a b s timed))
-    (both_lead o H R.items R.fault Q (act a s) (λ t. act b t) (h H s stands) (λ t next. k (history_after R.items H) t next))
+    (both_lead o H R.items R.fault Q (act a s) (λ t. act b t) (h H s stands) (λ t is next. k (history_after R.items H) t next))

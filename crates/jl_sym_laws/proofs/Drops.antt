@@ -29,7 +29,7 @@ or_none : (x : Text) → option_or x None ≡ x
 or_none None = refl
 or_none (Some v) = refl
 
-first_some : (x y : Text) → is_some x ≡ true → is_some (option_or x y) ≡ true
+pub first_some : (x y : Text) → is_some x ≡ true → is_some (option_or x y) ≡ true
 first_some None y h = absurd (false≢true h)
 first_some (Some v) y h = refl
 
@@ -52,12 +52,12 @@ last_both p (u ∷ us) vs =
     ap (λ (x : Text). option_or x (cond (p u) (Some u.text) None)) (last_both p us vs)
     ∙ sym (or_assoc (last_write p vs) (last_write p us) (cond (p u) (Some u.text) None))
 
--- the write in front counts, or one of those after it does
-here : (p : Written → Bool) (w : Written) (ws : List Written) → p w ≡ true → is_some (last_write p (w ∷ ws)) ≡ true
+-- the first write counts, or one of those after it does
+pub here : (p : Written → Bool) (w : Written) (ws : List Written) → p w ≡ true → is_some (last_write p (w ∷ ws)) ≡ true
 unfolding last_write
 here p w ws h = second_some (last_write p ws) (cond (p w) (Some w.text) None) (rw h refl)
 
-there : (p : Written → Bool) (w : Written) (ws : List Written) → is_some (last_write p ws) ≡ true → is_some (last_write p (w ∷ ws)) ≡ true
+pub there : (p : Written → Bool) (w : Written) (ws : List Written) → is_some (last_write p ws) ≡ true → is_some (last_write p (w ∷ ws)) ≡ true
 unfolding last_write
 there p w ws h = first_some (last_write p ws) (cond (p w) (Some w.text) None) h
 

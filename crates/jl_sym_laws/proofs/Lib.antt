@@ -13,6 +13,7 @@ pub mod RowsWorked
 pub mod LastWrites
 pub mod Sameness
 pub mod Drops
+pub mod Meeting
 pub mod Compaction
 pub mod Counting
 pub mod Bounds

@@ -27,7 +27,7 @@ earlier_need a (Need.Has x) = has_left x (left_in a x)
 earlier_need a (Need.Lacks x) = lacks_left x (left_in a x)
 earlier_need a Need.Never = Some Need.Never
 
--- a demand of the second run, in front of further ones
+-- a demand of the second run, before further ones
 abbrev pub demanded : ℕ → Demand → Option Need → List Demand → List Demand
 demanded rows d None ds = ds
 demanded rows d (Some need) ds = record d { moment = rows + d.moment; need = need } ∷ ds

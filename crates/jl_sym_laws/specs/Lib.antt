@@ -8,6 +8,7 @@ pub mod Runs
 pub mod Compacting
 pub mod Sizes
 pub mod Cutting
+pub mod Meeting
 pub mod Staying
 pub mod Laws
 pub mod WorkedRows

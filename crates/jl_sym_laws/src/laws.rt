@@ -2,6 +2,7 @@
 ghost use Rattle.jl_sym_laws.specs.Cutting.{MadeStays, ReadingsMade, StandsSized, CutKeeps, CutIsIn, FittedSummarises, FittedIsSmall, FittedIsMade};
 ghost use Rattle.jl_sym_laws.specs.Laws.{Decodes, AfterIsRun, SmallStepsSum, RowsSum, Composes, StaysTimed, UnitDoesNothing, UnitBefore, UnitAfter, GroupsAlike, ReadingsSum, ReadingsTimed, JoinedSum, RowSums, FaultSums, SumsSummarise, JoinedSummarise};
 ghost use Rattle.jl_sym_laws.specs.Compacting.{SlotIsLastWrite, DropsWrite, DropsDemand, CompactingKeeps};
+ghost use Rattle.jl_sym_laws.specs.Meeting.{DropsWritten};
 ghost use Rattle.jl_sym_laws.specs.Sizes.{CompactedFits};
 ghost use Rattle.jl_sym_laws.specs.Staying.{OpeningSettled, RowsSettle, SumsSettle};
 ghost use Rattle.jl_sym_laws.specs.WorkedRows.{ThreeAtOpening, ThreeAfterTwo, ThreeAfterEight, ImpliedIdsAcrossRuns, NothingToRepeat, WrongRowAfter, RepeatedTermKeepsItsText, PreviousPrefixAfterRewrite, TripleAfterGraphEnd, NestedTermWithoutEntry};
@@ -28,7 +29,7 @@ pub fn composes()
     ensures timed { StaysTimed }
 {}
 
-/// The summary of no rows does nothing, also in front of another one and after it.
+/// The summary of no rows does nothing, also before another one and after it.
 pub fn unit_is_neutral()
     ensures alone { UnitDoesNothing }
     ensures before { UnitBefore }
@@ -66,10 +67,11 @@ pub fn slots_are_last_writes()
 
 /// What may be left out of a summary, which then acts on every state as before: a write to an address that was written
 /// to before, where no text that is read is its own; and a demand that was made before. Texts are read at six moments
-/// at most.
+/// at most. A demand of a slot that the run itself wrote before, by its own id, may be left out on the states of a file.
 pub fn what_may_be_dropped()
     ensures write { DropsWrite }
     ensures demand { DropsDemand }
+    ensures written { DropsWritten }
 {}
 
 /// A compacted summary, from which all this is left out, acts on every state as the whole one. Where ids are inside of

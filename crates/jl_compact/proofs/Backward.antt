@@ -72,7 +72,7 @@ marked_on room floor v vs marks m le in_v = record {
   above = λ c in_c. above_by room floor v vs marks c m le in_v in_c;
 }
 
--- what the marks tell of the write in front
+-- what the marks tell of the first write
 pub unseen_is : (w : Written) (vs : List Written) (later : ℕ) (ks : List ℕ) → ((k : ℕ) → k ≤ top → is_overwritten w k vs ≡ nat_lt later k) → AreUpTo top ks → is_unseen w vs ks ≡ is_hidden_by w.moment later ks
 unfolding is_unseen
 unseen_is w vs later [] h small = refl

@@ -3,25 +3,14 @@ ghost use Rattle.std.specs.Prelude.{◌≡◌, ℕ, List, ◌≤◌, ◌<◌, �
 ghost use Rattle.jl_rows.specs.declared.row.Table as tables;
 ghost use Rattle.jl_rows.specs.Decoder as decoder;
 ghost use Rattle.jl_rows.specs.Seen.{options_seen};
-ghost use Rattle.jl_sym_laws.specs.Cutting.{is_id_in, is_need_in, is_reference_in, cut_writes, cut_demands};
+ghost use Rattle.jl_sym_laws.specs.Cutting.{is_need_in, cut_writes, cut_demands};
 ghost use Rattle.jl_sym.specs.Held.{AreTexts};
-ghost use Rattle.jl_sym.specs.Seen.{id_seen, need_seen, demands_seen};
+ghost use Rattle.jl_sym.specs.Seen.{need_seen, demands_seen};
 ghost use Rattle.jl_compact.specs.Parts.{writes_seen};
 
-use jl_rows::{Options, Table};
-use jl_sym::{Demand, Kept, Need, RelativeId, Write};
+use jl_rows::Options;
+use jl_sym::{Demand, Kept, Need, Write, is_reference_in, size_of};
 use std::alloc::{AllocError, Global};
-
-// How many entries a table may have.
-fn size_of(options: &Options, table: Table) -> u32
-    ensures { (bytes : List ℕ) → result ≡ decoder.size_of (options_seen bytes options.now) table }
-{
-    match table {
-        Table::Name => options.names,
-        Table::Prefix => options.prefixes,
-        Table::Datatype => options.datatypes,
-    }
-}
 
 /// The size of the largest table.
 pub fn largest_size(options: &Options) -> usize
@@ -31,40 +20,13 @@ pub fn largest_size(options: &Options) -> usize
     options.names.max(options.prefixes).max(options.datatypes) as usize
 }
 
-// Whether it is an id of a table of this size, or at most so far after the last one.
-fn is_inside(id: RelativeId, size: u32) -> bool
-    ensures { result ≡ is_id_in size (id_seen id) }
-{
-    match id {
-        RelativeId::Given(n) => 0 < n && n <= size,
-        RelativeId::After(k) => 0 < k && k <= size,
-    }
-}
-
-// Whether a reference can be one to these tables.
-fn is_reference(options: &Options, table: Table, id: RelativeId) -> bool
-    ensures { (bytes : List ℕ) → result ≡ is_reference_in (options_seen bytes options.now) table (id_seen id) }
-{
-    match table {
-        Table::Name => is_inside(id, options.names),
-        Table::Prefix => match id {
-            RelativeId::Given(_) => is_inside(id, options.prefixes),
-            RelativeId::After(k) => k == 0,
-        },
-        Table::Datatype => match id {
-            RelativeId::Given(_) => is_inside(id, options.datatypes),
-            RelativeId::After(_) => false,
-        },
-    }
-}
-
 // Whether some state with tables of these sizes may meet a need.
 fn may_be_met(options: &Options, need: Need) -> bool
     ensures { (bytes : List ℕ) → result ≡ is_need_in (options_seen bytes options.now) (need_seen need) }
 {
     match need {
-        Need::Fits(table, id) => is_inside(id, size_of(options, table)),
-        Need::Filled(table, id) => is_reference(options, table, id),
+        Need::Fits(table, id) => id.is_in(size_of(options, table)),
+        Need::Filled(table, id) => is_reference_in(options, table, id),
         Need::Has(_) => true,
         Need::Lacks(Kept::LastAt(_)) => false,
         Need::Lacks(Kept::OpenGraph) => true,
@@ -87,7 +49,7 @@ pub fn writes_inside(
     let mut rest = writes;
     'by_write: while let Some((write, later)) = rest.split_first() {
         rest = later;
-        if !is_inside(write.id, size_of(options, write.table)) {
+        if !write.id.is_in(size_of(options, write.table)) {
             continue;
         }
         inside.push(*write)?;

@@ -2,6 +2,5 @@ pub mod Near
 pub mod Acts
 pub mod Mades
 pub mod Pushing
-pub mod Leading
 pub mod Turning
 pub mod Leaves

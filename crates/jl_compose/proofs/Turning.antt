@@ -13,7 +13,7 @@ use Rattle.jl_sym_laws.specs.Cutting.{IsMade}
 use Rattle.jl_sym_laws.specs.Runs.{of_reading, history_after, Leads}
 use Rattle.jl_sym_laws.specs.Staying.{IsSettled, Settles}
 use Rattle.jl_sym_laws.proofs.Composition.{composes}
-use Rattle.jl_sym_laws.proofs.DecodeLaws.{decodes}
+use Rattle.jl_sym_laws.proofs.DecodeLaws.{decodes, both_lead}
 use Rattle.jl_sym_laws.proofs.RunLaws.{unit_does_nothing, readings_sum, readings_timed, joined_sum}
 use Rattle.jl_sym.specs.declared.summary.Summary.{Summary}
 use Rattle.jl_sym.specs.Held.{HasSummary}
@@ -25,7 +25,6 @@ use Rattle.jl_compose.specs.Turns.{Change, HasTables, ActsInTurn, KeepsSettled, 
 use Rattle.jl_compose.specs.Laws.{SumsOnSettled, LeadsOnSettled, SumsLead, AlikeSum, AlikeLead, BothSum, BothLead, UnitFirst, UnitSecond, GroupsAlike}
 use Rattle.jl_compose.proofs.Acts.{appended_acts}
 use Rattle.jl_compose.proofs.Mades.{appended_made}
-use Rattle.jl_compose.proofs.Leading.{both_lead}
 
 abbrev pub Led : Type 0
 Led = Result State Fault

@@ -1,5 +1,5 @@
 -- An entry in a summary.
-use Rattle.std.proofs.Common.{◌≡◌, ℕ, ◌+◌, ◌<◌, ◌≤◌, ◌==◌, Bool, true, false, List, [], ◌∷◌, ◌++◌, map, Result, Ok, Err, refl, ap, sym, ◌∙◌, subst, cond, arith, nat_lt, nat_le}
+use Rattle.std.proofs.Common.{◌≡◌, ◌⊎◌, ℕ, ◌+◌, ◌<◌, ◌≤◌, ◌==◌, Bool, true, false, List, [], ◌∷◌, ◌++◌, map, Result, Ok, Err, refl, ap, sym, ◌∙◌, subst, cond, arith, nat_lt, nat_le}
 use Rattle.std.proofs.Common.{Vec, Global}
 use Rattle.std.proofs.lemmas.Bool.{eqb-false, and_parts, leb-true}
 use Rattle.jl_base.specs.Results.{◌>>=◌}
@@ -36,10 +36,11 @@ use Rattle.jl_sym.specs.declared.marks.Marks.{Marks}
 use Rattle.jl_sym.specs.Seen.{id_seen, write_seen, demands_seen, growing_seen, IsSmall}
 use Rattle.jl_sym.specs.Held.{AreTexts}
 use Rattle.jl_sym.specs.Growth.{IsFit, last_entry, with_last_entry}
-use Rattle.jl_sym.specs.Marking.{AreGood, AreMarked}
+use Rattle.jl_sym.specs.Earlier.{earlier_in}
+use Rattle.jl_sym.specs.Marking.{is_marked, AreGood, AreMarked, AreAsked, IsSlotOf}
 use Rattle.jl_sym.specs.Asking.{moved, AreOfRun, Asks, Grows}
 use Rattle.jl_state.specs.declared.stop.Stop.{Stop}
-use Rattle.jl_sym.proofs.MarkLemmas.{marked_later}
+use Rattle.jl_sym.proofs.MarkLemmas.{marked_write}
 use Rattle.jl_sym.proofs.Composed.{composed_entry}
 use Rattle.jl_sym.proofs.RowSteps.{steps_as, by_same}
 use Rattle.jl_sym.proofs.GrowLemmas.{grow_ok, grow_err, timed_more}
@@ -76,10 +77,10 @@ module _ (o : StreamOptions) (m : Summary) (place : Place) (t : Table) (n : ℕ)
   abbrev pub with_it : List Demand → Summary
   with_it ds = with_entry t id (record m { rows = m.rows + 1; writes = written; demands = ds })
 
-  of_written : AreOfRun m.rows written
+  of_written : AreOfRun (earlier_in m) written
   of_written =
       let start : 0 ≤ m.rows = omega arith in
-      record { made = writes_push 0 m.rows m.writes _ start refl (entry_next (entry_in m t) n) made.writes made.timed.writes; before = before_push m.rows m.writes _ refl made.timed.writes }
+      record { made = writes_push 0 m.rows m.writes _ start refl (entry_next (entry_in m t) n) made.writes made.timed.writes; before = before_push m.rows m.writes _ refl made.timed.writes; begin = (_, refl) }
 
   entry_writes : (ds : List Demand) → (with_it ds).writes ≡ written
   entry_writes ds = by t
@@ -113,12 +114,12 @@ module _ (o : StreamOptions) (m : Summary) (place : Place) (t : Table) (n : ℕ)
       ap (λ (ws : List Written). unmet s ws ds) (entry_writes asked) ∙ e
       ∙ sym (ap (λ (ws : List Written). unmet s ws (with_it asked).demands) (entry_writes asked) ∙ ap (unmet s written) (entry_demands asked))
 
-  pub entry_grows : (ds : List Demand) → Asks o m.rows place m.demands (fits ∷ []) ds (Ok tt) → Grows o place (small_step (Small.Entry t n text)) m (with_it ds) (Ok tt)
+  pub entry_grows : (ds : List Demand) → Asks o (earlier_in m) place m.demands (fits ∷ []) ds (Ok tt) → Grows o place (small_step (Small.Entry t n text)) m (with_it ds) (Ok tt)
   entry_grows ds asks =
       subst (λ (x : Summary). Grows o place (small_step (Small.Entry t n text)) m x (Ok tt)) (entry_with asked ds)
       (grow_ok o m place (Small.Entry t n text) made (with_it asked) ds (composed_entry m place t n text) (λ s sized. in_written s ds (asks s written sized of_written)))
 
-  pub entry_stopped : (ds : List Demand) (stop : Stop) → AreGood m.rows ds → Asks o m.rows place m.demands (fits ∷ []) ds (Err stop) → Grows o place (small_step (Small.Entry t n text)) m (record m { demands = ds }) (Err stop)
+  pub entry_stopped : (ds : List Demand) (stop : Stop) → AreGood m.rows ds → Asks o (earlier_in m) place m.demands (fits ∷ []) ds (Err stop) → Grows o place (small_step (Small.Entry t n text)) m (record m { demands = ds }) (Err stop)
   entry_stopped ds (stops.Fault kind) good asks =
       grow_err o m place (Small.Entry t n text) made (with_it asked) (record m { demands = ds }) kind (composed_entry m place t n text) refl good.within
       (λ s sized. in_written s _ (asks s written sized of_written))
@@ -194,11 +195,44 @@ module _ (bytes : List ℕ) (old : Growing) (demands : Vec code_demand.Demand Gl
       ∙ entry_seen bytes (record old { demands = demands; writes = writes }) t idc
       ∙ (λ i. with_entry t (same i) (record m { rows = m.rows + 1; writes = ws i; demands = demands_seen demands.items }))
 
-  pub entry_fit : (marks marks' : Marks) → IsSmall idc → IsFit bytes old marks → AreMarked old.rows (demands_seen demands.items) marks' → AreTexts bytes writes.items → IsMade (growing_seen bytes (record S { rows = S.rows + 1 })) → IsFit bytes (record S { rows = S.rows + 1 }) marks'
+  pub entry_fit : (marks marks' : Marks) → IsSmall idc → IsFit bytes old marks → AreMarked (record { rows = old.rows + 1; writes = map (write_seen bytes) writes.items }) (demands_seen demands.items) marks' → AreTexts bytes writes.items → IsMade (growing_seen bytes (record S { rows = S.rows + 1 })) → IsFit bytes (record S { rows = S.rows + 1 }) marks'
   entry_fit marks marks' small fit marked inside = subst (λ (x : Growing). IsMade (growing_seen bytes (record x { rows = x.rows + 1 })) → IsFit bytes (record x { rows = x.rows + 1 }) marks') (sym is) (by t)
     where
       by : (u : Table) → IsMade (growing_seen bytes (record (with_last_entry u idc (record old { demands = demands; writes = writes })) { rows = (with_last_entry u idc (record old { demands = demands; writes = writes })).rows + 1 }))
           → IsFit bytes (record (with_last_entry u idc (record old { demands = demands; writes = writes })) { rows = (with_last_entry u idc (record old { demands = demands; writes = writes })).rows + 1 }) marks'
-      by Table.Name made = record { made = made; name_entry = small; prefix_entry = fit.prefix_entry; datatype_entry = fit.datatype_entry; name = fit.name; marked = marked_later old.rows (demands_seen demands.items) marks' marked; held = record { writes = inside; subject = fit.held.subject; predicate = fit.held.predicate; object = fit.held.object; graph = fit.held.graph; open_graph = fit.held.open_graph } }
-      by Table.Prefix made = record { made = made; name_entry = fit.name_entry; prefix_entry = small; datatype_entry = fit.datatype_entry; name = fit.name; marked = marked_later old.rows (demands_seen demands.items) marks' marked; held = record { writes = inside; subject = fit.held.subject; predicate = fit.held.predicate; object = fit.held.object; graph = fit.held.graph; open_graph = fit.held.open_graph } }
-      by Table.Datatype made = record { made = made; name_entry = fit.name_entry; prefix_entry = fit.prefix_entry; datatype_entry = small; name = fit.name; marked = marked_later old.rows (demands_seen demands.items) marks' marked; held = record { writes = inside; subject = fit.held.subject; predicate = fit.held.predicate; object = fit.held.object; graph = fit.held.graph; open_graph = fit.held.open_graph } }
+      by Table.Name made = record { made = made; name_entry = small; prefix_entry = fit.prefix_entry; datatype_entry = fit.datatype_entry; name = fit.name; marked = marked; held = record { writes = inside; subject = fit.held.subject; predicate = fit.held.predicate; object = fit.held.object; graph = fit.held.graph; open_graph = fit.held.open_graph } }
+      by Table.Prefix made = record { made = made; name_entry = fit.name_entry; prefix_entry = small; datatype_entry = fit.datatype_entry; name = fit.name; marked = marked; held = record { writes = inside; subject = fit.held.subject; predicate = fit.held.predicate; object = fit.held.object; graph = fit.held.graph; open_graph = fit.held.open_graph } }
+      by Table.Datatype made = record { made = made; name_entry = fit.name_entry; prefix_entry = fit.prefix_entry; datatype_entry = small; name = fit.name; marked = marked; held = record { writes = inside; subject = fit.held.subject; predicate = fit.held.predicate; object = fit.held.object; graph = fit.held.graph; open_graph = fit.held.open_graph } }
+
+-- an entry that is refused, or that no memory was found for: nothing is written
+module _ (bytes : List ℕ) (old : Growing) (marks : Marks) (fit : IsFit bytes old marks) where
+  pub asked_before : AreAsked (earlier_in (growing_seen bytes old)) (demands_seen old.demands.items) marks
+  asked_before = record { good = record { made = fit.made.demands; within = fit.made.timed.demands }; marked = fit.marked }
+
+  pub fit_unwritten : (demands : Vec code_demand.Demand Global) (writes : Vec Write Global) → writes.items ≡ old.writes.items → AreAsked (earlier_in (growing_seen bytes old)) (demands_seen demands.items) marks
+      → IsFit bytes (record old { demands = demands; writes = writes }) marks
+  fit_unwritten demands writes same asked =
+      let timed = fit.made.timed in
+      record {
+        made = subst (λ (ws : List Write). IsMade (record (growing_seen bytes old) { demands = demands_seen demands.items; writes = map (write_seen bytes) ws })) (sym same) (record {
+          timed = record { writes = timed.writes; demands = asked.good.within; subject = timed.subject; predicate = timed.predicate; object = timed.object; graph = timed.graph; open_graph = timed.open_graph };
+          writes = fit.made.writes;
+          demands = asked.good.made;
+          prefix = fit.made.prefix;
+        });
+        name_entry = fit.name_entry;
+        prefix_entry = fit.prefix_entry;
+        datatype_entry = fit.datatype_entry;
+        name = fit.name;
+        marked = subst (λ (ws : List Write). AreMarked (record { rows = old.rows; writes = map (write_seen bytes) ws }) (demands_seen demands.items) marks) (sym same) asked.marked;
+        held = record { writes = subst (AreTexts bytes) (sym same) fit.held.writes; subject = fit.held.subject; predicate = fit.held.predicate; object = fit.held.object; graph = fit.held.graph; open_graph = fit.held.open_graph };
+      }
+
+  -- the marks after an entry
+  pub entry_marked : (demands : Vec code_demand.Demand Global) (writes : List Write) (t : Table) (id : RelativeId) (extent : Extent) (new : Marks) → writes ≡ old.writes.items ++ record { moment = old.rows; table = t; id = id; text = extent } ∷ []
+      → ((need : Need) → is_marked need new ≡ true → (is_marked need marks ≡ true) ⊎ IsSlotOf t id need) → AreAsked (earlier_in (growing_seen bytes old)) (demands_seen demands.items) marks
+      → AreMarked (record { rows = old.rows + 1; writes = map (write_seen bytes) writes }) (demands_seen demands.items) new
+  entry_marked demands writes t id extent new pushed only asked =
+      let was = earlier_in (growing_seen bytes old) in
+      subst (λ (ws : List Written). AreMarked (record { rows = old.rows + 1; writes = ws }) (demands_seen demands.items) new) (sym (ap (map (write_seen bytes)) pushed ∙ map-snoc (write_seen bytes) old.writes.items _))
+      (marked_write was (demands_seen demands.items) marks new t id (text_in bytes extent) only asked.marked)

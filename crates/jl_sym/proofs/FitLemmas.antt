@@ -12,14 +12,15 @@ use Rattle.jl_sym.specs.declared.demand.Demand as code
 use Rattle.jl_sym.specs.declared.growing.Last.{Last}
 use Rattle.jl_sym.specs.declared.growing.Growing.{Growing}
 use Rattle.jl_sym.specs.declared.marks.Marks.{Marks}
+use Rattle.jl_sym.specs.Earlier.{earlier_in}
 use Rattle.jl_sym.specs.Growth.{IsFit}
 use Rattle.jl_sym.specs.Held.{HasKept}
 use Rattle.jl_sym.specs.Lays.{laid}
 use Rattle.jl_sym.specs.Marking.{is_marked, AreMarked, AreAsked}
-use Rattle.jl_sym.specs.Seen.{last_seen, demands_seen, HasLast}
+use Rattle.jl_sym.specs.Seen.{last_seen, demands_seen, growing_seen, HasLast}
 
 -- before the first row
-pub none_marked : (marks : Marks) → ((need : Need) → is_marked need marks ≡ false) → AreMarked 0 [] marks
+pub none_marked : (marks : Marks) → ((need : Need) → is_marked need marks ≡ false) → AreMarked (earlier_in unit) [] marks
 none_marked marks none n d is same le = let both : false ≡ true = sym (none n) ∙ is in cc
 
 pub unit_made : IsMade unit
@@ -81,7 +82,7 @@ module _ (bytes : List ℕ) (old : Growing) (marks marks' : Marks) (fit : IsFit 
     held_kept (Ok _) held same = held
     held_kept (Err stop) held same = subst (HasKept bytes) (sym same.1) (held_at x)
 
-  module _ (demands : Vec code.Demand Global) (r : RefWords) (left : Last) (asked : AreAsked old.rows (demands_seen demands.items) marks') (last : HasLast r) (within : IsLeftWithin old.rows (last_seen bytes left)) (held : HasKept bytes left) where
+  module _ (demands : Vec code.Demand Global) (r : RefWords) (left : Last) (asked : AreAsked (earlier_in (growing_seen bytes old)) (demands_seen demands.items) marks') (last : HasLast r) (within : IsLeftWithin old.rows (last_seen bytes left)) (held : HasKept bytes left) where
     fit_subject : IsFit bytes (with_last (Kept.LastAt Position.Subject) left (record old { demands = demands; ids = r })) marks'
     fit_subject = record {
       made = record {
@@ -170,7 +171,7 @@ module _ (bytes : List ℕ) (old : Growing) (marks marks' : Marks) (fit : IsFit 
     fit_with Kept.OpenGraph = fit_open_graph
 
   -- a thing that is kept was set, or the row is refused
-  pub fit_kept : (x : Kept) (left : Last) (demands : Vec code.Demand Global) (r : RefWords) (result : Result (Unit {0}) Stop) (after : Left) → IsLeftWithin old.rows after → AreAsked old.rows (demands_seen demands.items) marks' → OnOk result (HasLast r)
+  pub fit_kept : (x : Kept) (left : Last) (demands : Vec code.Demand Global) (r : RefWords) (result : Result (Unit {0}) Stop) (after : Left) → IsLeftWithin old.rows after → AreAsked (earlier_in (growing_seen bytes old)) (demands_seen demands.items) marks' → OnOk result (HasLast r)
       → OnOk result (HasKept bytes left) → OnErr result ((r ≡ old.ids) × (left ≡ last_at x old)) → OnOk result (last_seen bytes left ≡ after) → IsFit bytes (with_last x left (record old { demands = demands; ids = r })) marks'
   fit_kept x left demands r result after within asked has held same is =
       fit_with demands r left asked (last_kept x left r result has same) (left_kept x left r result after within same is) (held_kept x left r result held same) x

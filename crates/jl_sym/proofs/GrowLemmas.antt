@@ -1,5 +1,5 @@
 -- How a summary grows by small steps.
-use Rattle.std.proofs.Common.{◌≡◌, ℕ, ◌+◌, ◌<◌, ◌≤◌, List, [], ◌∷◌, ◌++◌, Option, Some, None, Result, Ok, Err, OnOk, refl, ap, sym, ◌∙◌, subst, arith}
+use Rattle.std.proofs.Common.{◌≡◌, ℕ, ◌+◌, ◌<◌, ◌≤◌, List, [], ◌∷◌, ◌++◌, Option, Some, None, Result, Ok, Err, OnOk, refl, ap, sym, ◌∙◌, subst, append-nil, arith}
 use Rattle.std.specs.Option.{option_or}
 use Rattle.jl_base.specs.Results.{◌>>=◌}
 use Rattle.jl_base.specs.declared.kind.Kind.{Kind}
@@ -21,6 +21,7 @@ use Rattle.jl_sym_laws.specs.Cutting.{IsMade, Sized}
 use Rattle.jl_sym_laws.proofs.Composition.{composes}
 use Rattle.jl_sym_laws.proofs.Later.{unmet_both, unmet_earlier}
 use Rattle.jl_sym_laws.proofs.SmallLaws.{small_steps_sum}
+use Rattle.jl_sym.specs.Earlier.{earlier_in}
 use Rattle.jl_sym.specs.Asking.{moved, AreOfRun, never_at, Asks, Grows, perhaps, place_demands}
 use Rattle.jl_sym.specs.Lays.{laid, set_left}
 use Rattle.jl_sym.proofs.Composed.{asking, composed_place, composed_reads, composed_in_graph, composed_opens, composed_closes, composed_ends}
@@ -94,8 +95,8 @@ pub before_more : (rows : ℕ) (ws : List Written) → AreBefore rows ws → Are
 before_more rows [] h = tt
 before_more rows (w ∷ ws) h = let here = h.0 in let less : w.moment < rows + 1 = omega (arith, here) in (less, before_more rows ws h.1)
 
-pub of_run : (m : Summary) → IsMade m → AreOfRun m.rows m.writes
-of_run m made = record { made = made.writes; before = before_more m.rows m.writes made.timed.writes }
+pub of_run : (m : Summary) → IsMade m → AreOfRun (earlier_in m) m.writes
+of_run m made = record { made = made.writes; before = before_more m.rows m.writes made.timed.writes; begin = ([], sym (append-nil m.writes)) }
 
 left_writes : (x : Position) (l : Left) (m : Summary) → (with_left x l m).writes ≡ m.writes
 left_writes Position.Subject l m = refl
@@ -121,10 +122,10 @@ module _ (o : StreamOptions) (m : Summary) (place : Place) (x : Small) (made : I
   in_whole : (s : State) (ds : List Demand) → unmet s m.writes ds ≡ unmet s m.writes (m.demands ++ moved m.rows said) → unmet s M.writes ds ≡ unmet s M.writes M.demands
   in_whole s ds e = ap (λ (ws : List Written). unmet s ws ds) writes ∙ e ∙ sym (ap (λ (ws : List Written). unmet s ws M.demands) writes ∙ ap (unmet s m.writes) demands)
 
-  pub step_grows : (ds : List Demand) → Asks o m.rows place m.demands said ds (Ok tt) → Grows o place (small_step x) m (record M { demands = ds }) (Ok tt)
+  pub step_grows : (ds : List Demand) → Asks o (earlier_in m) place m.demands said ds (Ok tt) → Grows o place (small_step x) m (record M { demands = ds }) (Ok tt)
   step_grows ds asks = grow_ok o m place x made M ds is (λ s sized. in_whole s ds (asks s m.writes sized (of_run m made)))
 
-  pub step_stopped : (new : Summary) (stop : Stop) → new.writes ≡ m.writes → AreWithin m.rows new.demands → Asks o m.rows place m.demands said new.demands (Err stop) → Grows o place (small_step x) m new (Err stop)
+  pub step_stopped : (new : Summary) (stop : Stop) → new.writes ≡ m.writes → AreWithin m.rows new.demands → Asks o (earlier_in m) place m.demands said new.demands (Err stop) → Grows o place (small_step x) m new (Err stop)
   step_stopped new (stops.Fault kind) same within asks =
       grow_err o m place x made M new kind is same within (λ s sized. in_whole s (new.demands ++ never_at m.rows place kind ∷ []) (asks s m.writes sized (of_run m made)))
   step_stopped new stops.NoMemory same within asks = tt
@@ -143,7 +144,7 @@ module _ (o : StreamOptions) (m : Summary) (place : Place) (x : Position) (t : T
   abbrev pub put : Left → List Demand → Refs → Summary
   put left ds ids = with_left x left (record m { demands = ds; ids = ids })
 
-  pub placed_grows : (left : Left) (ds : List Demand) (ids : Refs) (result : Result (Unit {0}) Stop) → Asks o m.rows place m.demands said ds result
+  pub placed_grows : (left : Left) (ds : List Demand) (ids : Refs) (result : Result (Unit {0}) Stop) → Asks o (earlier_in m) place m.demands said ds result
       → OnOk result (ids ≡ refs_after t m.ids) → OnOk result (left ≡ laid m.rows m.ids t before) → AreWithin m.rows ds → Grows o place (small_step (Small.Places x t)) m (put left ds ids) result
   placed_grows left ds ids (Ok _) asks same_ids same_left within =
       subst (λ (r : Refs). Grows o place (small_step (Small.Places x t)) m (put left ds r) (Ok tt)) (sym same_ids)
@@ -153,21 +154,21 @@ module _ (o : StreamOptions) (m : Summary) (place : Place) (x : Position) (t : T
   placed_grows left ds ids (Err stop) asks same_ids same_left within =
       let same : (put left ds ids).demands ≡ ds = left_demands x _ _ in
       step_stopped o m place (Small.Places x t) made said whole (composed_place m place x t) (left_writes x _ _) (left_demands x _ _) (put left ds ids) stop (left_writes x _ _)
-      (subst (AreWithin m.rows) (sym same) within) (subst (λ (es : List Demand). Asks o m.rows place m.demands said es (Err stop)) (sym same) asks)
+      (subst (AreWithin m.rows) (sym same) within) (subst (λ (es : List Demand). Asks o (earlier_in m) place m.demands said es (Err stop)) (sym same) asks)
 
 -- the open graph
 module _ (o : StreamOptions) (m : Summary) (place : Place) (made : IsMade m) where
   abbrev pub there : List Demand
   there = perhaps place NoGraph (has_left Kept.OpenGraph m.open_graph)
 
-  pub in_graph_grows : (ds : List Demand) (result : Result (Unit {0}) Stop) → Asks o m.rows place m.demands there ds result → AreWithin m.rows ds → Grows o place (small_step Small.IsInGraph) m (record m { demands = ds }) result
+  pub in_graph_grows : (ds : List Demand) (result : Result (Unit {0}) Stop) → Asks o (earlier_in m) place m.demands there ds result → AreWithin m.rows ds → Grows o place (small_step Small.IsInGraph) m (record m { demands = ds }) result
   in_graph_grows ds (Ok _) asks within = step_grows o m place Small.IsInGraph made there (asking m there) (composed_in_graph m place) refl refl ds asks
   in_graph_grows ds (Err stop) asks within = step_stopped o m place Small.IsInGraph made there (asking m there) (composed_in_graph m place) refl refl (record m { demands = ds }) stop refl within asks
 
-  pub closes_grows : (ds : List Demand) → Asks o m.rows place m.demands there ds (Ok tt) → Grows o place (small_step Small.Closes) m (record m { demands = ds; open_graph = Left.Cleared }) (Ok tt)
+  pub closes_grows : (ds : List Demand) → Asks o (earlier_in m) place m.demands there ds (Ok tt) → Grows o place (small_step Small.Closes) m (record m { demands = ds; open_graph = Left.Cleared }) (Ok tt)
   closes_grows ds asks = step_grows o m place Small.Closes made there (record (asking m there) { open_graph = Left.Cleared }) (composed_closes m place) refl refl ds asks
 
-  pub closes_stopped : (ds : List Demand) (stop : Stop) → Asks o m.rows place m.demands there ds (Err stop) → AreWithin m.rows ds → Grows o place (small_step Small.Closes) m (record m { demands = ds }) (Err stop)
+  pub closes_stopped : (ds : List Demand) (stop : Stop) → Asks o (earlier_in m) place m.demands there ds (Err stop) → AreWithin m.rows ds → Grows o place (small_step Small.Closes) m (record m { demands = ds }) (Err stop)
   closes_stopped ds stop asks within = step_stopped o m place Small.Closes made there (record (asking m there) { open_graph = Left.Cleared }) (composed_closes m place) refl refl (record m { demands = ds }) stop refl within asks
 
   module _ (g : Term) where
@@ -177,7 +178,7 @@ module _ (o : StreamOptions) (m : Summary) (place : Place) (made : IsMade m) whe
     abbrev pub opened : Summary
     opened = record (asking m opening) { ids = refs_after g m.ids; open_graph = set_left m.rows m.ids g }
 
-    pub opens_grows : (left : Left) (ds : List Demand) (ids : Refs) (result : Result (Unit {0}) Stop) → Asks o m.rows place m.demands opening ds result
+    pub opens_grows : (left : Left) (ds : List Demand) (ids : Refs) (result : Result (Unit {0}) Stop) → Asks o (earlier_in m) place m.demands opening ds result
         → OnOk result (ids ≡ refs_after g m.ids) → OnOk result (left ≡ set_left m.rows m.ids g) → AreWithin m.rows ds → Grows o place (small_step (Small.Opens g)) m (record m { demands = ds; ids = ids; open_graph = left }) result
     opens_grows left ds ids (Ok _) asks same_ids same_left within =
         subst (λ (r : Refs). Grows o place (small_step (Small.Opens g)) m (record m { demands = ds; ids = r; open_graph = left }) (Ok tt)) (sym same_ids)
@@ -227,10 +228,10 @@ module _ (o : StreamOptions) (m : Summary) (place : Place) (i : Ids) (made : IsM
   abbrev pub read : Summary
   read = record (asking m asked) { ids = refs_after (Term.Iri i) m.ids }
 
-  pub reads_grows : (ds : List Demand) (ids : Refs) → Asks o m.rows place m.demands asked ds (Ok tt) → ids ≡ refs_after (Term.Iri i) m.ids → Grows o place (small_step (Small.Reads i)) m (record m { demands = ds; ids = ids }) (Ok tt)
+  pub reads_grows : (ds : List Demand) (ids : Refs) → Asks o (earlier_in m) place m.demands asked ds (Ok tt) → ids ≡ refs_after (Term.Iri i) m.ids → Grows o place (small_step (Small.Reads i)) m (record m { demands = ds; ids = ids }) (Ok tt)
   reads_grows ds ids asks same =
       subst (λ (r : Refs). Grows o place (small_step (Small.Reads i)) m (record m { demands = ds; ids = r }) (Ok tt)) (sym same)
       (step_grows o m place (Small.Reads i) made asked read (composed_reads m place i) refl refl ds asks)
 
-  pub reads_stopped : (ds : List Demand) (stop : Stop) → Asks o m.rows place m.demands asked ds (Err stop) → AreWithin m.rows ds → Grows o place (small_step (Small.Reads i)) m (record m { demands = ds }) (Err stop)
+  pub reads_stopped : (ds : List Demand) (stop : Stop) → Asks o (earlier_in m) place m.demands asked ds (Err stop) → AreWithin m.rows ds → Grows o place (small_step (Small.Reads i)) m (record m { demands = ds }) (Err stop)
   reads_stopped ds stop asks within = step_stopped o m place (Small.Reads i) made asked read (composed_reads m place i) refl refl (record m { demands = ds }) stop refl within asks

@@ -16,24 +16,26 @@ use Rattle.jl_sym_laws.specs.Composing.{AreBefore, has_left}
 use Rattle.jl_sym_laws.specs.SmallSteps.{demand, term_demands}
 use Rattle.jl_sym_laws.specs.Cutting.{AreMadeWrites, Sized}
 use Rattle.jl_state.specs.Running.{at_place}
+use Rattle.jl_sym.specs.Earlier.{Earlier}
 
 -- demands of a row that has so many rows of the run before it
 abbrev pub moved : ℕ → List Demand → List Demand
 moved rows ds = map {A = Demand} (λ (d : Demand). record d { moment = rows }) ds
 
--- writes of so many rows and one more
-pub record AreOfRun (rows : ℕ) (ws : List Written) : Type 0 where
+-- the writes of the rows before, and perhaps those of one row more
+pub record AreOfRun (was : Earlier) (ws : List Written) : Type 0 where
   pub made : AreMadeWrites 0 ws
-  pub before : AreBefore (rows + 1) ws
+  pub before : AreBefore (was.rows + 1) ws
+  pub begin : (more : List Written) × (ws ≡ was.writes ++ more)
 
 abbrev pub never_at : ℕ → Place → Kind → Demand
 never_at rows place kind = record (demand place kind Need.Never) { moment = rows }
 
 -- The demands that were made ask of a state what those did that were there and these; or a certain fault comes after them.
-abbrev pub Asks : StreamOptions → ℕ → Place → List Demand → List Demand → List Demand → Result (Unit {0}) Stop → Type 0
-Asks o rows place old said new (Ok _) = (s : State) (ws : List Written) → Sized o s → AreOfRun rows ws → unmet s ws new ≡ unmet s ws (old ++ moved rows said)
-Asks o rows place old said new (Err (stops.Fault kind)) = (s : State) (ws : List Written) → Sized o s → AreOfRun rows ws → unmet s ws (new ++ never_at rows place kind ∷ []) ≡ unmet s ws (old ++ moved rows said)
-Asks o rows place old said new (Err stops.NoMemory) = Unit {0}
+abbrev pub Asks : StreamOptions → Earlier → Place → List Demand → List Demand → List Demand → Result (Unit {0}) Stop → Type 0
+Asks o was place old said new (Ok _) = (s : State) (ws : List Written) → Sized o s → AreOfRun was ws → unmet s ws new ≡ unmet s ws (old ++ moved was.rows said)
+Asks o was place old said new (Err (stops.Fault kind)) = (s : State) (ws : List Written) → Sized o s → AreOfRun was ws → unmet s ws (new ++ never_at was.rows place kind ∷ []) ≡ unmet s ws (old ++ moved was.rows said)
+Asks o was place old said new (Err stops.NoMemory) = Unit {0}
 
 -- what is asked for a position that a term is set at, or repeated; so many rows left this there
 abbrev pub perhaps : Place → Kind → Option Need → List Demand

@@ -7,6 +7,7 @@ use Rattle.jl_sym_laws.specs.Summaries as sums
 use Rattle.jl_sym.specs.declared.relative_id.RelativeId.{RelativeId}
 use Rattle.jl_sym.specs.declared.growing.Growing.{Growing}
 use Rattle.jl_sym.specs.declared.marks.Marks.{Marks}
+use Rattle.jl_sym.specs.Earlier.{earlier_in}
 use Rattle.jl_sym.specs.Held.{HasGrowing}
 use Rattle.jl_sym.specs.Marking.{AreMarked}
 use Rattle.jl_sym.specs.Seen.{demands_seen, growing_seen, word_seen, IsSmall, IsSmallId}
@@ -17,7 +18,7 @@ pub record IsFit (bytes : List ℕ) (m : Growing) (marks : Marks) : Type 0 where
   pub prefix_entry : IsSmall m.prefix_entry
   pub datatype_entry : IsSmall m.datatype_entry
   pub name : IsSmallId (word_seen m.ids.name)
-  pub marked : AreMarked m.rows (demands_seen m.demands.items) marks
+  pub marked : AreMarked (earlier_in (growing_seen bytes m)) (demands_seen m.demands.items) marks
   pub held : HasGrowing bytes m
 
 abbrev pub last_entry : Table → Growing → RelativeId

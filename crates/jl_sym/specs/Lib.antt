@@ -1,4 +1,5 @@
 pub mod Seen
+pub mod Earlier
 pub mod Checked
 pub mod Asking
 pub mod Lays

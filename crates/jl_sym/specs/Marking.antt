@@ -1,5 +1,5 @@
--- What was asked for, so that it needn't be again.
-use Rattle.std.specs.Prelude.{◌≡◌, ◌≤◌, ℕ, Bool, true, false, List, slice_index_or}
+-- What was asked for or written, so that it needn't be asked again.
+use Rattle.std.specs.Prelude.{◌≡◌, ◌⊎◌, ◌≤◌, ℕ, Bool, true, false, List, slice_index_or}
 use Rattle.jl_rows.specs.declared.row.Table.{Table}
 use Rattle.jl_sym_laws.specs.RelativeIds.{Id}
 use Rattle.jl_rows.specs.Values.{Position}
@@ -7,7 +7,11 @@ use Rattle.jl_sym_laws.specs.Summaries.{Kept, Need, Demand}
 use Rattle.jl_sym_laws.specs.Compacting.{was_asked}
 use Rattle.jl_sym_laws.specs.Composing.{AreWithin}
 use Rattle.jl_sym_laws.specs.Cutting.{AreMadeDemands}
+use Rattle.jl_sym_laws.specs.Meeting.{is_written}
 use Rattle.jl_sym.specs.declared.marks.Marks.{Marks}
+use Rattle.jl_sym.specs.declared.relative_id.RelativeId.{RelativeId}
+use Rattle.jl_sym.specs.declared.relative_id.RelativeId.TheVariants as relatives
+use Rattle.jl_sym.specs.Earlier.{Earlier}
 
 abbrev pub is_marked : Need → Marks → Bool
 is_marked (Need.Filled Table.Name (Id.Given n)) m = slice_index_or m.names.items n false
@@ -25,16 +29,22 @@ is_marked (Need.Fits t id) m = false
 is_marked (Need.Lacks x) m = false
 is_marked Need.Never m = false
 
--- what is marked was asked, so that it needn't be again after so many rows
-abbrev pub AreMarked : ℕ → List Demand → Marks → Type 0
-AreMarked rows ds marks = (need : Need) (d : Demand) → is_marked need marks ≡ true → d.need ≡ need → rows ≤ d.moment → was_asked d ds ≡ true
+-- what is marked was asked, or is met by what was written, so that it needn't be asked again after these rows
+abbrev pub AreMarked : Earlier → List Demand → Marks → Type 0
+AreMarked was ds marks =
+    (need : Need) (d : Demand) → is_marked need marks ≡ true → d.need ≡ need → was.rows ≤ d.moment → (was_asked d ds ≡ true) ⊎ (is_written need d.moment was.writes ≡ true)
+
+-- a need of the slot that an entry of this id writes; where its id counts on from the last entry, it isn't known which one
+abbrev pub IsSlotOf : Table → RelativeId → Need → Type 0
+IsSlotOf t (relatives.Given n) need = need ≡ Need.Filled t (Id.Given n)
+IsSlotOf t (relatives.After k) need = ⊥
 
 -- demands of so many rows and one more
 pub record AreGood (rows : ℕ) (ds : List Demand) : Type 0 where
   pub made : AreMadeDemands 0 ds
   pub within : AreWithin rows ds
 
--- such demands, and the marks of what they ask
-pub record AreAsked (rows : ℕ) (ds : List Demand) (marks : Marks) : Type 0 where
-  pub good : AreGood rows ds
-  pub marked : AreMarked rows ds marks
+-- such demands, and the marks of what they ask and of what was written
+pub record AreAsked (was : Earlier) (ds : List Demand) (marks : Marks) : Type 0 where
+  pub good : AreGood was.rows ds
+  pub marked : AreMarked was ds marks

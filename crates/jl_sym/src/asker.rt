@@ -11,7 +11,8 @@ ghost use Rattle.jl_sym_laws.specs.RelativeIds.{incoming, refs_after};
 ghost use Rattle.jl_sym_laws.specs.SmallSteps as small;
 ghost use Rattle.jl_sym_laws.specs.Summaries as sums;
 ghost use Rattle.jl_sym.specs.Asking.{Asks, place_demands};
-ghost use Rattle.jl_sym.specs.Checked.{checked, options_of, IsHere};
+ghost use Rattle.jl_sym.specs.Checked.{checked, earlier_of, options_of, IsHere};
+ghost use Rattle.jl_sym.specs.declared.marks.Marks.{Marks};
 ghost use Rattle.jl_sym.specs.Lays.{laid};
 ghost use Rattle.jl_sym.specs.Marking.{AreAsked};
 ghost use Rattle.jl_sym.specs.Seen.{id_seen, words_seen, need_seen, last_seen, demands_seen, HasLast};
@@ -21,6 +22,7 @@ use crate::growing::Last;
 use crate::id_word::RefWords;
 use crate::marks::Marks;
 use crate::relative_id::{RelativeId, is_reference_in, size_of};
+use crate::summary::Write;
 use jl_base::{Fault, Kind, Place};
 use jl_rows::{Options, RawIri, RawTail, RawTerm, RawTriple, Table, triple_term_at};
 use jl_state::{Position, Stop, is_tag};
@@ -34,14 +36,15 @@ pub(crate) struct Here<'a> {
     pub place: Place,
 }
 
-/// A row of a run, after so many others.
+/// A row of a run, after so many others and what they wrote.
 #[derive(Clone, Copy)]
-pub(crate) struct Asker<'a> {
+pub(crate) struct Asker<'a, 'b> {
     pub here: &'a Here<'a>,
     pub moment: u32,
+    pub writes: &'b Vec<Write>,
 }
 
-impl Asker<'_> {
+impl Asker<'_, '_> {
     // One more demand.
     #[inline]
     fn push(&self, demands: &mut Vec<Demand>, kind: Kind, need: Need) -> Result<(), AllocError>
@@ -70,18 +73,18 @@ impl Asker<'_> {
         kind: Kind,
         need: Need,
     ) -> Result<(), Stop>
-        requires good { AreAsked self.now.moment (demands_seen demands.old.items) marks.old }
+        requires good { AreAsked (earlier_of self.now) (demands_seen demands.old.items) marks.old }
         requires made { cutting.IsMadeNeed (need_seen need) }
-        ensures asks { Asks (options_of self.now.here.now) self.now.moment self.now.here.now.place (demands_seen demands.old.items)
+        ensures asks { Asks (options_of self.now.here.now) (earlier_of self.now) self.now.here.now.place (demands_seen demands.old.items)
             (small.demand self.now.here.now.place kind (need_seen need) ∷ []) (demands_seen demands.new.items) result }
-        ensures good { AreAsked self.now.moment (demands_seen demands.new.items) marks.new }
+        ensures good { AreAsked (earlier_of self.now) (demands_seen demands.new.items) marks.new }
     {
         self.push(demands, kind, need)?;
         marks.mark(need);
         Ok(())
     }
 
-    /// Asks for what no options decide, unless the run asked for it before.
+    /// Asks for what no options decide, unless it is marked.
     #[inline]
     pub fn ask(
         &self,
@@ -90,11 +93,12 @@ impl Asker<'_> {
         kind: Kind,
         need: Need,
     ) -> Result<(), Stop>
-        requires good { AreAsked self.now.moment (demands_seen demands.old.items) marks.old }
+        requires good { AreAsked (earlier_of self.now) (demands_seen demands.old.items) marks.old }
         requires made { cutting.IsMadeNeed (need_seen need) }
-        ensures asks { Asks (options_of self.now.here.now) self.now.moment self.now.here.now.place (demands_seen demands.old.items)
+        requires open { cutting.is_need_in (options_of self.now.here.now) (need_seen need) ≡ true }
+        ensures asks { Asks (options_of self.now.here.now) (earlier_of self.now) self.now.here.now.place (demands_seen demands.old.items)
             (small.demand self.now.here.now.place kind (need_seen need) ∷ []) (demands_seen demands.new.items) result }
-        ensures good { AreAsked self.now.moment (demands_seen demands.new.items) marks.new }
+        ensures good { AreAsked (earlier_of self.now) (demands_seen demands.new.items) marks.new }
     {
         if marks.has(need) {
             return Ok(());
@@ -102,32 +106,34 @@ impl Asker<'_> {
         self.ask_first(demands, marks, kind, need)
     }
 
-    /// The id of an entry must be one of its table. That of a known one is so on every state.
+    // Whether an entry of this id can be one of its table.
     #[inline]
-    pub fn fits(
-        &self,
-        demands: &mut Vec<Demand>,
-        marks: &mut Marks,
-        table: Table,
-        id: RelativeId,
-    ) -> Result<(), Stop>
-        requires good { AreAsked self.now.moment (demands_seen demands.old.items) marks.old }
+    fn is_entry(&self, table: Table, id: RelativeId) -> bool
+        ensures { result ≡ cutting.is_id_in (size_of (options_of self.now.here.now) table) (id_seen id) }
+    {
+        id.is_in(size_of(self.here.options, table))
+    }
+
+    /// The id of an entry must be one of its table. That of a known one is so on every state; others are asked for each time.
+    #[inline]
+    pub fn fits(&self, demands: &mut Vec<Demand>, table: Table, id: RelativeId) -> Result<(), Stop>
         requires made { cutting.IsNext (id_seen id) }
-        ensures asks { Asks (options_of self.now.here.now) self.now.moment self.now.here.now.place (demands_seen demands.old.items)
+        ensures asks { Asks (options_of self.now.here.now) (earlier_of self.now) self.now.here.now.place (demands_seen demands.old.items)
             (small.demand self.now.here.now.place Kind.BadEntry (sums.Fits table (id_seen id)) ∷ []) (demands_seen demands.new.items) result }
-        ensures good { AreAsked self.now.moment (demands_seen demands.new.items) marks.new }
+        ensures good { (marks : Marks) → AreAsked (earlier_of self.now) (demands_seen demands.old.items) marks → AreAsked (earlier_of self.now) (demands_seen demands.new.items) marks }
         ensures fits { OnOk result (cutting.is_id_in (size_of (options_of self.now.here.now) table) (id_seen id) ≡ true) }
     {
-        if !id.is_in(size_of(self.here.bytes, self.here.options, table)) {
+        if !self.is_entry(table, id) {
             return Err(Stop::Fault(Kind::BadEntry));
         }
         if let RelativeId::Given(_) = id {
             return Ok(());
         }
-        self.ask(demands, marks, Kind::BadEntry, Need::Fits(table, id))
+        self.push(demands, Kind::BadEntry, Need::Fits(table, id))?;
+        Ok(())
     }
 
-    // Asks for the slot of a reference. It stands apart, since a run asks for each slot once.
+    // Asks for the slot of a reference. It stands apart, since a run asks for each slot once at most.
     #[inline(never)]
     fn ask_slot(
         &self,
@@ -136,18 +142,26 @@ impl Asker<'_> {
         table: Table,
         id: RelativeId,
     ) -> Result<(), Stop>
-        requires good { AreAsked self.now.moment (demands_seen demands.old.items) marks.old }
+        requires good { AreAsked (earlier_of self.now) (demands_seen demands.old.items) marks.old }
         requires made { cutting.IsMadeReference table (id_seen id) }
-        ensures asks { Asks (options_of self.now.here.now) self.now.moment self.now.here.now.place (demands_seen demands.old.items)
+        ensures asks { Asks (options_of self.now.here.now) (earlier_of self.now) self.now.here.now.place (demands_seen demands.old.items)
             (small.demand self.now.here.now.place Kind.NoEntry (sums.Filled table (id_seen id)) ∷ []) (demands_seen demands.new.items) result }
-        ensures good { AreAsked self.now.moment (demands_seen demands.new.items) marks.new }
+        ensures good { AreAsked (earlier_of self.now) (demands_seen demands.new.items) marks.new }
     {
         self.push(demands, Kind::NoEntry, Need::Filled(table, id))?;
         marks.mark_slot(table, id);
         Ok(())
     }
 
-    // The slot of a reference must be filled.
+    // Whether a reference of this id can be one to its table.
+    #[inline(always)]
+    fn is_reference(&self, table: Table, id: RelativeId) -> bool
+        ensures { result ≡ cutting.is_reference_in (options_of self.now.here.now) table (id_seen id) }
+    {
+        is_reference_in(self.here.options, table, id)
+    }
+
+    // The slot of a reference must be filled, which an entry of the run may have done.
     #[inline(always)]
     fn filled(
         &self,
@@ -156,14 +170,14 @@ impl Asker<'_> {
         table: Table,
         id: RelativeId,
     ) -> Result<(), Stop>
-        requires good { AreAsked self.now.moment (demands_seen demands.old.items) marks.old }
+        requires good { AreAsked (earlier_of self.now) (demands_seen demands.old.items) marks.old }
         requires made { cutting.IsMadeReference table (id_seen id) }
-        ensures asks { Asks (options_of self.now.here.now) self.now.moment self.now.here.now.place (demands_seen demands.old.items)
+        ensures asks { Asks (options_of self.now.here.now) (earlier_of self.now) self.now.here.now.place (demands_seen demands.old.items)
             (small.demand self.now.here.now.place Kind.NoEntry (sums.Filled table (id_seen id)) ∷ []) (demands_seen demands.new.items) result }
-        ensures good { AreAsked self.now.moment (demands_seen demands.new.items) marks.new }
+        ensures good { AreAsked (earlier_of self.now) (demands_seen demands.new.items) marks.new }
         ensures fits { OnOk result (cutting.is_reference_in (options_of self.now.here.now) table (id_seen id) ≡ true) }
     {
-        if !is_reference_in(self.here.bytes, self.here.options, table, id) {
+        if !self.is_reference(table, id) {
             return Err(Stop::Fault(Kind::NoEntry));
         }
         if marks.has_slot(table, id) {
@@ -182,12 +196,12 @@ impl Asker<'_> {
         iri: RawIri,
     ) -> Result<(), Stop>
         requires here { IsHere self.now.here.now }
-        requires good { AreAsked self.now.moment (demands_seen demands.old.items) marks.old }
+        requires good { AreAsked (earlier_of self.now) (demands_seen demands.old.items) marks.old }
         requires last { HasLast last.old }
-        ensures asks { Asks (options_of self.now.here.now) self.now.moment self.now.here.now.place (demands_seen demands.old.items)
+        ensures asks { Asks (options_of self.now.here.now) (earlier_of self.now) self.now.here.now.place (demands_seen demands.old.items)
             (small.term_demands self.now.here.now.place (words_seen last.old) (written.Iri (rows.ids_seen iri))) (demands_seen demands.new.items) result }
         ensures ids { OnOk result (words_seen last.new ≡ refs_after (written.Iri (rows.ids_seen iri)) (words_seen last.old)) }
-        ensures good { AreAsked self.now.moment (demands_seen demands.new.items) marks.new }
+        ensures good { AreAsked (earlier_of self.now) (demands_seen demands.new.items) marks.new }
         ensures last { OnOk result (HasLast last.new) }
     {
         let ids = last.after(iri);
@@ -201,11 +215,11 @@ impl Asker<'_> {
     #[inline(always)]
     fn tail(&self, demands: &mut Vec<Demand>, marks: &mut Marks, tail: RawTail) -> Result<(), Stop>
         requires here { IsHere self.now.here.now }
-        requires good { AreAsked self.now.moment (demands_seen demands.old.items) marks.old }
+        requires good { AreAsked (earlier_of self.now) (demands_seen demands.old.items) marks.old }
         requires inside { rows.HasTail self.now.here.now.bytes.now tail }
-        ensures asks { Asks (options_of self.now.here.now) self.now.moment self.now.here.now.place (demands_seen demands.old.items)
+        ensures asks { Asks (options_of self.now.here.now) (earlier_of self.now) self.now.here.now.place (demands_seen demands.old.items)
             (small.tail_demands self.now.here.now.place (rows.ending_seen self.now.here.now.bytes.now tail)) (demands_seen demands.new.items) result }
-        ensures good { AreAsked self.now.moment (demands_seen demands.new.items) marks.new }
+        ensures good { AreAsked (earlier_of self.now) (demands_seen demands.new.items) marks.new }
     {
         match tail {
             RawTail::Simple => Ok(()),
@@ -233,14 +247,14 @@ impl Asker<'_> {
         raw: &RawTerm,
     ) -> Result<(), Stop>
         requires here { IsHere self.now.here.now }
-        requires good { AreAsked self.now.moment (demands_seen demands.old.items) marks.old }
+        requires good { AreAsked (earlier_of self.now) (demands_seen demands.old.items) marks.old }
         requires inside { rows.HasTerm self.now.here.now.bytes.now raw.now }
         requires last { HasLast last.old }
         requires leaf { IsLeaf raw.now }
-        ensures asks { Asks (options_of self.now.here.now) self.now.moment self.now.here.now.place (demands_seen demands.old.items)
+        ensures asks { Asks (options_of self.now.here.now) (earlier_of self.now) self.now.here.now.place (demands_seen demands.old.items)
             (small.term_demands self.now.here.now.place (words_seen last.old) (rows.term_seen self.now.here.now.bytes.now raw.now)) (demands_seen demands.new.items) result }
         ensures ids { OnOk result (words_seen last.new ≡ refs_after (rows.term_seen self.now.here.now.bytes.now raw.now) (words_seen last.old)) }
-        ensures good { AreAsked self.now.moment (demands_seen demands.new.items) marks.new }
+        ensures good { AreAsked (earlier_of self.now) (demands_seen demands.new.items) marks.new }
         ensures last { OnOk result (HasLast last.new) }
     {
         match raw {
@@ -263,14 +277,14 @@ impl Asker<'_> {
         raw: &RawTerm,
     ) -> Result<(), Stop>
         requires here { IsHere self.now.here.now }
-        requires good { AreAsked self.now.moment (demands_seen demands.old.items) marks.old }
+        requires good { AreAsked (earlier_of self.now) (demands_seen demands.old.items) marks.old }
         requires inside { rows.HasTerm self.now.here.now.bytes.now raw.now }
         requires last { HasLast last.old }
-        ensures asks { Asks (options_of self.now.here.now) self.now.moment self.now.here.now.place (demands_seen demands.old.items)
+        ensures asks { Asks (options_of self.now.here.now) (earlier_of self.now) self.now.here.now.place (demands_seen demands.old.items)
             (small.term_demands self.now.here.now.place (words_seen last.old) (checked (options_of self.now.here.now) (position_of x) (rows.term_seen self.now.here.now.bytes.now raw.now))) (demands_seen demands.new.items) result }
         ensures same { OnOk result (checked (options_of self.now.here.now) (position_of x) (rows.term_seen self.now.here.now.bytes.now raw.now) ≡ rows.term_seen self.now.here.now.bytes.now raw.now) }
         ensures ids { OnOk result (words_seen last.new ≡ refs_after (rows.term_seen self.now.here.now.bytes.now raw.now) (words_seen last.old)) }
-        ensures good { AreAsked self.now.moment (demands_seen demands.new.items) marks.new }
+        ensures good { AreAsked (earlier_of self.now) (demands_seen demands.new.items) marks.new }
         ensures last { OnOk result (HasLast last.new) }
     {
         if let RawTerm::Triple(_) = raw {
@@ -291,14 +305,14 @@ impl Asker<'_> {
         raw: &RawTerm,
     ) -> Result<(), Stop>
         requires here { IsHere self.now.here.now }
-        requires good { AreAsked self.now.moment (demands_seen demands.old.items) marks.old }
+        requires good { AreAsked (earlier_of self.now) (demands_seen demands.old.items) marks.old }
         requires inside { rows.HasTerm self.now.here.now.bytes.now raw.now }
         requires last { HasLast last.old }
-        ensures asks { Asks (options_of self.now.here.now) self.now.moment self.now.here.now.place (demands_seen demands.old.items)
+        ensures asks { Asks (options_of self.now.here.now) (earlier_of self.now) self.now.here.now.place (demands_seen demands.old.items)
             (small.term_demands self.now.here.now.place (words_seen last.old) (checked (options_of self.now.here.now) (position_of x) (rows.term_seen self.now.here.now.bytes.now raw.now))) (demands_seen demands.new.items) result }
         ensures same { OnOk result (checked (options_of self.now.here.now) (position_of x) (rows.term_seen self.now.here.now.bytes.now raw.now) ≡ rows.term_seen self.now.here.now.bytes.now raw.now) }
         ensures ids { OnOk result (words_seen last.new ≡ refs_after (rows.term_seen self.now.here.now.bytes.now raw.now) (words_seen last.old)) }
-        ensures good { AreAsked self.now.moment (demands_seen demands.new.items) marks.new }
+        ensures good { AreAsked (earlier_of self.now) (demands_seen demands.new.items) marks.new }
         ensures last { OnOk result (HasLast last.new) }
     {
         self.stands(x, raw)?;
@@ -323,14 +337,14 @@ impl Asker<'_> {
         terms: &RawTriple,
     ) -> Result<(), Stop>
         requires here { IsHere self.now.here.now }
-        requires good { AreAsked self.now.moment (demands_seen demands.old.items) marks.old }
+        requires good { AreAsked (earlier_of self.now) (demands_seen demands.old.items) marks.old }
         requires inside { rows.HasTriple self.now.here.now.bytes.now terms.now }
         requires last { HasLast last.old }
-        ensures asks { Asks (options_of self.now.here.now) self.now.moment self.now.here.now.place (demands_seen demands.old.items)
+        ensures asks { Asks (options_of self.now.here.now) (earlier_of self.now) self.now.here.now.place (demands_seen demands.old.items)
             (small.term_demands self.now.here.now.place (words_seen last.old) (inner_under self.now.here.now.options.now.strict (options_of self.now.here.now) (rows.nested_seen self.now.here.now.bytes.now terms.now))) (demands_seen demands.new.items) result }
         ensures same { OnOk result (inner_under self.now.here.now.options.now.strict (options_of self.now.here.now) (rows.nested_seen self.now.here.now.bytes.now terms.now) ≡ rows.nested_seen self.now.here.now.bytes.now terms.now) }
         ensures ids { OnOk result (words_seen last.new ≡ refs_after (rows.nested_seen self.now.here.now.bytes.now terms.now) (words_seen last.old)) }
-        ensures good { AreAsked self.now.moment (demands_seen demands.new.items) marks.new }
+        ensures good { AreAsked (earlier_of self.now) (demands_seen demands.new.items) marks.new }
         ensures last { OnOk result (HasLast last.new) }
     {
         self.inner(demands, marks, last, Position::Subject, &terms.s)?;
@@ -349,14 +363,14 @@ impl Asker<'_> {
         raw: &Option<RawTerm>,
     ) -> Result<(), Stop>
         requires here { IsHere self.now.here.now }
-        requires good { AreAsked self.now.moment (demands_seen demands.old.items) marks.old }
+        requires good { AreAsked (earlier_of self.now) (demands_seen demands.old.items) marks.old }
         requires inside { rows.HasPosition self.now.here.now.bytes.now raw.now }
         requires last { HasLast last.old }
-        ensures asks { Asks (options_of self.now.here.now) self.now.moment self.now.here.now.place (demands_seen demands.old.items)
+        ensures asks { Asks (options_of self.now.here.now) (earlier_of self.now) self.now.here.now.place (demands_seen demands.old.items)
             (small.term_demands self.now.here.now.place (words_seen last.old) (checked (options_of self.now.here.now) (position_of x) (rows.position_seen self.now.here.now.bytes.now raw.now))) (demands_seen demands.new.items) result }
         ensures same { OnOk result (checked (options_of self.now.here.now) (position_of x) (rows.position_seen self.now.here.now.bytes.now raw.now) ≡ rows.position_seen self.now.here.now.bytes.now raw.now) }
         ensures ids { OnOk result (words_seen last.new ≡ refs_after (rows.position_seen self.now.here.now.bytes.now raw.now) (words_seen last.old)) }
-        ensures good { AreAsked self.now.moment (demands_seen demands.new.items) marks.new }
+        ensures good { AreAsked (earlier_of self.now) (demands_seen demands.new.items) marks.new }
         ensures last { OnOk result (HasLast last.new) }
     {
         let Some(raw) = raw else {

@@ -62,14 +62,16 @@ impl<'a> Growing<'a> {
         let asker = Asker {
             here,
             moment: self.rows,
+            writes: &self.writes,
         };
-        asker.fits(&mut self.demands, marks, table, id)?;
+        asker.fits(&mut self.demands, table, id)?;
         self.writes.push(Write {
             moment: self.rows,
             table,
             id,
             text: Extent::marked(here.bytes, text),
         })?;
+        marks.mark_entry(table, id);
         self.set_entry(table, id);
         self.rows += 1;
         Ok(())

@@ -128,6 +128,7 @@ impl<'a> Growing<'a> {
         let asker = Asker {
             here,
             moment: self.rows,
+            writes: &self.writes,
         };
         let (demands, ids) = (&mut self.demands, &mut self.ids);
         asker.place(
@@ -158,6 +159,7 @@ impl<'a> Growing<'a> {
         let asker = Asker {
             here,
             moment: self.rows,
+            writes: &self.writes,
         };
         let (demands, ids) = (&mut self.demands, &mut self.ids);
         asker.place(
@@ -188,6 +190,7 @@ impl<'a> Growing<'a> {
         let asker = Asker {
             here,
             moment: self.rows,
+            writes: &self.writes,
         };
         let (demands, ids) = (&mut self.demands, &mut self.ids);
         asker.place(demands, marks, ids, Position::Object, &mut self.object, raw)
@@ -211,6 +214,7 @@ impl<'a> Growing<'a> {
         let asker = Asker {
             here,
             moment: self.rows,
+            writes: &self.writes,
         };
         let (demands, ids) = (&mut self.demands, &mut self.ids);
         asker.place(demands, marks, ids, Position::Graph, &mut self.graph, raw)
@@ -228,6 +232,7 @@ impl<'a> Growing<'a> {
         let asker = Asker {
             here,
             moment: self.rows,
+            writes: &self.writes,
         };
         let mut ids = self.ids;
         asker.iri(&mut self.demands, marks, &mut ids, iri)?;
@@ -247,6 +252,7 @@ impl<'a> Growing<'a> {
         let asker = Asker {
             here,
             moment: self.rows,
+            writes: &self.writes,
         };
         asker.has(
             &mut self.demands,
@@ -275,6 +281,7 @@ impl<'a> Growing<'a> {
         let asker = Asker {
             here,
             moment: self.rows,
+            writes: &self.writes,
         };
         asker.start(
             &mut self.demands,
@@ -297,6 +304,7 @@ impl<'a> Growing<'a> {
         let asker = Asker {
             here,
             moment: self.rows,
+            writes: &self.writes,
         };
         asker.has(
             &mut self.demands,

@@ -8,7 +8,7 @@ ghost use Rattle.jl_sym_laws.specs.RelativeIds.{refs_after};
 ghost use Rattle.jl_sym_laws.specs.SmallSteps as small;
 ghost use Rattle.jl_sym_laws.specs.Summaries as sums;
 ghost use Rattle.jl_sym.specs.Asking.{Asks, perhaps, place_demands};
-ghost use Rattle.jl_sym.specs.Checked.{checked, options_of, IsHere};
+ghost use Rattle.jl_sym.specs.Checked.{checked, earlier_of, options_of, IsHere};
 ghost use Rattle.jl_sym.specs.Held.{HasKept};
 ghost use Rattle.jl_sym.specs.Lays.{laid, set_left};
 ghost use Rattle.jl_sym.specs.Marking.{AreAsked};
@@ -23,7 +23,7 @@ use jl_base::Kind;
 use jl_rows::RawTerm;
 use jl_state::{Position, Stop};
 
-impl Asker<'_> {
+impl Asker<'_, '_> {
     /// What is kept must be there, unless the run set it.
     #[inline]
     pub fn has<'a>(
@@ -34,10 +34,10 @@ impl Asker<'_> {
         kept: Kept,
         left: &Last<'a>,
     ) -> Result<(), Stop>
-        requires good { AreAsked self.now.moment (demands_seen demands.old.items) marks.old }
-        ensures asks { Asks (options_of self.now.here.now) self.now.moment self.now.here.now.place (demands_seen demands.old.items)
+        requires good { AreAsked (earlier_of self.now) (demands_seen demands.old.items) marks.old }
+        ensures asks { Asks (options_of self.now.here.now) (earlier_of self.now) self.now.here.now.place (demands_seen demands.old.items)
             (perhaps self.now.here.now.place kind (has_left (kept_seen kept) (last_seen self.now.here.now.bytes.now left.now))) (demands_seen demands.new.items) result }
-        ensures good { AreAsked self.now.moment (demands_seen demands.new.items) marks.new }
+        ensures good { AreAsked (earlier_of self.now) (demands_seen demands.new.items) marks.new }
     {
         match left {
             Last::Incoming => self.ask(demands, marks, kind, Need::Has(kept)),
@@ -54,10 +54,10 @@ impl Asker<'_> {
         marks: &mut Marks,
         left: &Last<'a>,
     ) -> Result<(), Stop>
-        requires good { AreAsked self.now.moment (demands_seen demands.old.items) marks.old }
-        ensures asks { Asks (options_of self.now.here.now) self.now.moment self.now.here.now.place (demands_seen demands.old.items)
+        requires good { AreAsked (earlier_of self.now) (demands_seen demands.old.items) marks.old }
+        ensures asks { Asks (options_of self.now.here.now) (earlier_of self.now) self.now.here.now.place (demands_seen demands.old.items)
             (perhaps self.now.here.now.place Kind.GraphOpen (lacks_left sums.OpenGraph (last_seen self.now.here.now.bytes.now left.now))) (demands_seen demands.new.items) result }
-        ensures good { AreAsked self.now.moment (demands_seen demands.new.items) marks.new }
+        ensures good { AreAsked (earlier_of self.now) (demands_seen demands.new.items) marks.new }
     {
         match left {
             Last::Incoming => self.ask(
@@ -83,16 +83,16 @@ impl Asker<'_> {
         raw: &'a RawTerm,
     ) -> Result<(), Stop>
         requires here { IsHere self.now.here.now }
-        requires good { AreAsked self.now.moment (demands_seen demands.old.items) marks.old }
+        requires good { AreAsked (earlier_of self.now) (demands_seen demands.old.items) marks.old }
         requires inside { rows.HasTerm self.now.here.now.bytes.now raw.now }
         requires last { HasLast last.old }
-        ensures asks { Asks (options_of self.now.here.now) self.now.moment self.now.here.now.place (demands_seen demands.old.items)
+        ensures asks { Asks (options_of self.now.here.now) (earlier_of self.now) self.now.here.now.place (demands_seen demands.old.items)
             (small.term_demands self.now.here.now.place (words_seen last.old) (checked (options_of self.now.here.now) (position_of x) (rows.term_seen self.now.here.now.bytes.now raw.now))) (demands_seen demands.new.items) result }
         ensures ids { OnOk result (words_seen last.new ≡ refs_after (checked (options_of self.now.here.now) (position_of x) (rows.term_seen self.now.here.now.bytes.now raw.now)) (words_seen last.old)) }
         ensures left { OnOk result (last_seen self.now.here.now.bytes.now left.new ≡ set_left self.now.moment (words_seen last.old) (checked (options_of self.now.here.now) (position_of x) (rows.term_seen self.now.here.now.bytes.now raw.now))) }
         ensures plain { OnOk result (checked (options_of self.now.here.now) (position_of x) (rows.term_seen self.now.here.now.bytes.now raw.now) ≡ rows.term_seen self.now.here.now.bytes.now raw.now) }
         ensures same { OnErr result ((last.new ≡ last.old) × (left.new ≡ left.old)) }
-        ensures good { AreAsked self.now.moment (demands_seen demands.new.items) marks.new }
+        ensures good { AreAsked (earlier_of self.now) (demands_seen demands.new.items) marks.new }
         ensures held { OnOk result (HasKept self.now.here.now.bytes.now left.new) }
         ensures last { OnOk result (HasLast last.new) }
     {
@@ -119,16 +119,16 @@ impl Asker<'_> {
         raw: &'a Option<RawTerm>,
     ) -> Result<(), Stop>
         requires here { IsHere self.now.here.now }
-        requires good { AreAsked self.now.moment (demands_seen demands.old.items) marks.old }
+        requires good { AreAsked (earlier_of self.now) (demands_seen demands.old.items) marks.old }
         requires inside { rows.HasPosition self.now.here.now.bytes.now raw.now }
         requires held { HasKept self.now.here.now.bytes.now left.old }
         requires last { HasLast last.old }
-        ensures asks { Asks (options_of self.now.here.now) self.now.moment self.now.here.now.place (demands_seen demands.old.items)
+        ensures asks { Asks (options_of self.now.here.now) (earlier_of self.now) self.now.here.now.place (demands_seen demands.old.items)
             (place_demands self.now.here.now.place (sums.LastAt (position_of x)) (last_seen self.now.here.now.bytes.now left.old) (words_seen last.old) (checked (options_of self.now.here.now) (position_of x) (rows.position_seen self.now.here.now.bytes.now raw.now))) (demands_seen demands.new.items) result }
         ensures ids { OnOk result (words_seen last.new ≡ refs_after (checked (options_of self.now.here.now) (position_of x) (rows.position_seen self.now.here.now.bytes.now raw.now)) (words_seen last.old)) }
         ensures left { OnOk result (last_seen self.now.here.now.bytes.now left.new ≡ laid self.now.moment (words_seen last.old) (checked (options_of self.now.here.now) (position_of x) (rows.position_seen self.now.here.now.bytes.now raw.now)) (last_seen self.now.here.now.bytes.now left.old)) }
         ensures same { OnErr result ((last.new ≡ last.old) × (left.new ≡ left.old)) }
-        ensures good { AreAsked self.now.moment (demands_seen demands.new.items) marks.new }
+        ensures good { AreAsked (earlier_of self.now) (demands_seen demands.new.items) marks.new }
         ensures held { OnOk result (HasKept self.now.here.now.bytes.now left.new) }
         ensures last { OnOk result (HasLast last.new) }
     {
@@ -149,16 +149,16 @@ impl Asker<'_> {
         raw: &'a Option<RawTerm>,
     ) -> Result<(), Stop>
         requires here { IsHere self.now.here.now }
-        requires good { AreAsked self.now.moment (demands_seen demands.old.items) marks.old }
+        requires good { AreAsked (earlier_of self.now) (demands_seen demands.old.items) marks.old }
         requires inside { rows.HasPosition self.now.here.now.bytes.now raw.now }
         requires last { HasLast last.old }
-        ensures asks { Asks (options_of self.now.here.now) self.now.moment self.now.here.now.place (demands_seen demands.old.items)
+        ensures asks { Asks (options_of self.now.here.now) (earlier_of self.now) self.now.here.now.place (demands_seen demands.old.items)
             (perhaps self.now.here.now.place Kind.GraphOpen (lacks_left sums.OpenGraph (last_seen self.now.here.now.bytes.now left.old))
             ++ small.term_demands self.now.here.now.place (words_seen last.old) (checked (options_of self.now.here.now) values.Graph (rows.position_seen self.now.here.now.bytes.now raw.now))) (demands_seen demands.new.items) result }
         ensures ids { OnOk result (words_seen last.new ≡ refs_after (checked (options_of self.now.here.now) values.Graph (rows.position_seen self.now.here.now.bytes.now raw.now)) (words_seen last.old)) }
         ensures left { OnOk result (last_seen self.now.here.now.bytes.now left.new ≡ set_left self.now.moment (words_seen last.old) (checked (options_of self.now.here.now) values.Graph (rows.position_seen self.now.here.now.bytes.now raw.now))) }
         ensures same { OnErr result ((last.new ≡ last.old) × (left.new ≡ left.old)) }
-        ensures good { AreAsked self.now.moment (demands_seen demands.new.items) marks.new }
+        ensures good { AreAsked (earlier_of self.now) (demands_seen demands.new.items) marks.new }
         ensures held { OnOk result (HasKept self.now.here.now.bytes.now left.new) }
         ensures last { OnOk result (HasLast last.new) }
     {

@@ -26,7 +26,7 @@ mod words;
 pub use demand::{Demand, Kept, Need};
 pub use marks::Marks;
 pub use of_run::summarise;
-pub use relative_id::{Refs, RelativeId};
+pub use relative_id::{Refs, RelativeId, is_reference_in, size_of};
 pub use steps::Steps;
 pub use summary::{Left, Summary, Write};
 pub use summing::summarise_tape;

@@ -1,7 +1,7 @@
-//! What a run has asked for.
+//! What a run has asked for, or written.
 ghost use Rattle.std.specs.Prelude.{◌≡◌, ◌⊎◌, ℕ, true, false, slice_index_or, OnOk};
 ghost use Rattle.jl_sym_laws.specs.Summaries as sums;
-ghost use Rattle.jl_sym.specs.Marking.{is_marked};
+ghost use Rattle.jl_sym.specs.Marking.{is_marked, IsSlotOf};
 ghost use Rattle.jl_sym.specs.Seen.{need_seen};
 
 use crate::demand::{Kept, Need};
@@ -109,7 +109,7 @@ impl Marks {
         }
     }
 
-    /// Whether a slot was asked for.
+    /// Whether a slot was asked for, or written.
     #[inline(always)]
     pub(crate) fn has_slot(&self, table: Table, id: RelativeId) -> bool
         ensures { result ≡ is_marked (need_seen (Need.Filled table id)) self.now }
@@ -175,6 +175,18 @@ impl Marks {
                 RelativeId::Given(n) => set(&mut self.datatypes, n),
                 RelativeId::After(_) => {}
             },
+        }
+    }
+
+    /// Marks the slot that an entry fills, where its id is known. One that counts on from the last entry is no reference's,
+    /// which counts on from the last reference.
+    #[inline]
+    pub(crate) fn mark_entry(&mut self, table: Table, id: RelativeId)
+        ensures { (need : sums.Need) → is_marked need self.new ≡ true → (is_marked need self.old ≡ true) ⊎ IsSlotOf table id need }
+    {
+        match id {
+            RelativeId::Given(n) => self.mark_slot(table, RelativeId::Given(n)),
+            RelativeId::After(_) => (),
         }
     }
 

@@ -9,7 +9,7 @@ use jl_base::Kind;
 use jl_rows::RawTerm;
 use jl_state::{Position, stands_strictly};
 
-impl Asker<'_> {
+impl Asker<'_, '_> {
     // The checks of a term by its position under the strict profile.
     fn stands_strictly(&self, x: Position, raw: &RawTerm) -> Result<(), Kind>
         ensures { MayStand true (options_of self.now.here.now) (position_of x) (rows.term_seen self.now.here.now.bytes.now raw.now) result }

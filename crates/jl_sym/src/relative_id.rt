@@ -1,5 +1,5 @@
 //! Ids of a run before which it isn't known what stands.
-ghost use Rattle.std.specs.Prelude.{◌≡◌};
+ghost use Rattle.std.specs.Prelude.{◌≡◌, ℕ, List};
 ghost use Rattle.jl_rows.specs.Decoder as decoder;
 ghost use Rattle.jl_rows.specs.Seen as rows;
 ghost use Rattle.jl_sym_laws.specs.Cutting as cutting;
@@ -15,7 +15,7 @@ pub enum RelativeId {
     After(u32),
 }
 
-/// The ids of the last IRI before a term.
+/// The last ids: those of the last IRI before a term, or of the last one of a run.
 #[derive(Clone, Copy, Debug, PartialEq, Eq)]
 pub struct Refs {
     pub prefix: RelativeId,
@@ -50,7 +50,7 @@ impl RelativeId {
 
     /// Whether it is an id of a table of this size, or at most so far after the last one.
     #[inline]
-    pub(crate) fn is_in(self, size: u32) -> bool
+    pub fn is_in(self, size: u32) -> bool
         ensures { result ≡ cutting.is_id_in size (id_seen self) }
     {
         match self {
@@ -62,8 +62,8 @@ impl RelativeId {
 
 /// How many entries a table may have.
 #[inline]
-pub(crate) fn size_of(bytes: &[u8], options: &Options, table: Table) -> u32
-    ensures { result ≡ decoder.size_of (rows.options_seen bytes.now options.now) table }
+pub fn size_of(options: &Options, table: Table) -> u32
+    ensures { (bytes : List ℕ) → result ≡ decoder.size_of (rows.options_seen bytes options.now) table }
 {
     match table {
         Table::Name => options.names,
@@ -74,8 +74,8 @@ pub(crate) fn size_of(bytes: &[u8], options: &Options, table: Table) -> u32
 
 /// Whether a reference can be one to these tables.
 #[inline]
-pub(crate) fn is_reference_in(bytes: &[u8], options: &Options, table: Table, id: RelativeId) -> bool
-    ensures { result ≡ cutting.is_reference_in (rows.options_seen bytes.now options.now) table (id_seen id) }
+pub fn is_reference_in(options: &Options, table: Table, id: RelativeId) -> bool
+    ensures { (bytes : List ℕ) → result ≡ cutting.is_reference_in (rows.options_seen bytes options.now) table (id_seen id) }
 {
     match table {
         Table::Name => id.is_in(options.names),

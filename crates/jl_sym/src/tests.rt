@@ -140,6 +140,30 @@ fn a_slot_is_asked_for_once(rt: HostRuntime) -> Result<(), Fail> {
     Ok(())
 }
 
+// Names x of the next id and y of id 3; a triple of i(0,0) i(0,3) i(0,1).
+const WRITTEN: &[u8] = b"\
+    \x0A\x05\x4A\x03\x12\x01x\
+    \x0A\x07\x4A\x05\x08\x03\x12\x01y\
+    \x0A\x0C\x12\x0A\x0A\0\x2A\x02\x10\x03\x4A\x02\x10\x01";
+
+#[test]
+fn a_slot_that_was_written_is_not_asked_for(rt: HostRuntime) -> Result<(), Fail> {
+    let alloc = rt.alloc();
+    let summary = summary_of(&rt, alloc, TRIPLES, false, WRITTEN)?;
+    let fits = Need::Fits(Table::Name, after(1));
+    demands_are(
+        &rt,
+        &summary,
+        &[
+            demand(0, Kind::BadEntry, fits),
+            filled(2, Table::Prefix, after(0)),
+            filled(2, Table::Name, after(1)),
+            filled(2, Table::Name, given(1)),
+        ],
+    );
+    Ok(())
+}
+
 fn has(x: Position) -> Demand {
     demand(0, Kind::NoTerm, Need::Has(Kept::LastAt(x)))
 }

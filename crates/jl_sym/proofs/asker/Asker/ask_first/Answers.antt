@@ -1,6 +1,7 @@
 use Rattle.std.proofs.Common.{List, refl, sym, subst}
 use Rattle.jl_sym_laws.specs.Summaries.{Demand}
 use Rattle.jl_sym.specs.Marking.{AreAsked}
+use Rattle.jl_sym.specs.Checked.{earlier_of}
 use Rattle.jl_sym.specs.Seen.{need_seen, demands_seen}
 use Rattle.jl_sym.proofs.AskLemmas.{good_push}
 use Rattle.jl_sym.proofs.MarkLemmas.{marked_push}
@@ -8,9 +9,9 @@ use Rattle.jl_sym.proofs.asker.Asker.ask_first.Goals as goal
 
 pub returns-clause-good : goal.returns-clause-good
 returns-clause-good c =
-    let moment = c.args.self.now.moment in
-    subst (λ (ds : List Demand). AreAsked moment ds c.mark.new.self) (sym c.in_ok-push.ensures.demands)
+    let was = earlier_of c.args.self.now in
+    subst (λ (ds : List Demand). AreAsked was ds c.mark.new.self) (sym c.in_ok-push.ensures.demands)
     (record {
-      good = good_push moment (demands_seen c.args.demands.now.items) _ c.requires.good.good refl c.requires.made;
-      marked = marked_push moment (demands_seen c.args.demands.now.items) c.args.marks.now c.mark.new.self (need_seen c.args.need) _ refl refl c.mark.ensures c.requires.good.marked;
+      good = good_push was.rows (demands_seen c.args.demands.now.items) _ c.requires.good.good refl c.requires.made;
+      marked = marked_push was (demands_seen c.args.demands.now.items) c.args.marks.now c.mark.new.self (need_seen c.args.need) _ refl refl c.mark.ensures c.requires.good.marked;
     })

@@ -1,4 +1,5 @@
 use Rattle.jl_sym.specs.Checked.{options_of}
+use Rattle.jl_sym.specs.Earlier.{earlier_in}
 use Rattle.jl_sym.specs.Seen.{growing_seen, demands_seen}
 use Rattle.jl_sym.proofs.GrowLemmas.{ends_grows, ends_made}
 use Rattle.jl_sym.proofs.MarkLemmas.{marked_later}
@@ -16,6 +17,6 @@ returns-clause-fit c = record {
   prefix_entry = c.requires.fit.prefix_entry;
   datatype_entry = c.requires.fit.datatype_entry;
   name = c.requires.fit.name;
-  marked = marked_later c.args.self.now.rows (demands_seen c.args.self.now.demands.items) c.args.marks.now c.requires.fit.marked;
+  marked = marked_later (earlier_in (growing_seen c.args.here.now.bytes.now c.args.self.now)) (demands_seen c.args.self.now.demands.items) c.args.marks.now c.requires.fit.marked;
   held = record { writes = c.requires.fit.held.writes; subject = c.requires.fit.held.subject; predicate = c.requires.fit.held.predicate; object = c.requires.fit.held.object; graph = c.requires.fit.held.graph; open_graph = c.requires.fit.held.open_graph };
 }

@@ -1,7 +1,7 @@
-use Rattle.std.proofs.Common.{◌≡◌, ◌≤◌, List, map, sym, ap, subst, arith}
+use Rattle.std.proofs.Common.{◌≡◌, ◌≤◌, List, [], map, sym, ap, subst, arith}
 use Rattle.jl_rows.specs.Decoder.{most_entries}
 use Rattle.jl_sym_laws.specs.RelativeIds.{Refs}
-use Rattle.jl_sym_laws.specs.Summaries.{Demand, unit}
+use Rattle.jl_sym_laws.specs.Summaries.{Demand, Written, unit}
 use Rattle.jl_sym_laws.specs.Cutting.{IsMade}
 use Rattle.jl_sym.specs.Held.{AreTexts}
 use Rattle.jl_sym.specs.Marking.{AreMarked}
@@ -20,6 +20,7 @@ returns-clause-fit c bytes marks none =
       prefix_entry = omega arith;
       datatype_entry = omega arith;
       name = subst IsSmallId (sym (ap (λ (r : Refs). r.name) c.incoming.ensures)) (let small : 0 ≤ most_entries = omega arith in small);
-      marked = subst (λ (xs : List Demand). AreMarked 0 xs marks) (sym ds) (none_marked marks none);
+      marked = subst (λ (xs : List Demand). AreMarked (record { rows = 0; writes = map (write_seen bytes) c.list_for.result.items }) xs marks) (sym ds)
+          (subst (λ (xs : List Written). AreMarked (record { rows = 0; writes = xs }) [] marks) (sym ws) (none_marked marks none));
       held = record { writes = subst (AreTexts bytes) (sym c.list_for.ensures) tt; subject = tt; predicate = tt; object = tt; graph = tt; open_graph = tt };
     }

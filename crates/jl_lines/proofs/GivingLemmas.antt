@@ -11,8 +11,8 @@ use Rattle.jl_state.specs.Running.{run_on}
 use Rattle.jl_lines.specs.declared.decoding.Counts.{Counts}
 use Rattle.jl_lines.specs.declared.decoding.Decoding.{Decoding}
 use Rattle.jl_lines.specs.declared.decoding.Refused.TheVariants as refused
-use Rattle.jl_lines.specs.declared.waves.Broken.{Broken}
-use Rattle.jl_lines.specs.declared.waves.Broken.TheVariants as broken
+use Rattle.jl_lines.specs.declared.giving.Broken.{Broken}
+use Rattle.jl_lines.specs.declared.giving.Broken.TheVariants as broken
 use Rattle.jl_lines.specs.declared.writing.Writing.{Writing}
 use Rattle.jl_state.specs.declared.state.State.{State}
 use Rattle.jl_lines.specs.Writings.{written}

@@ -43,12 +43,19 @@ pub run_none : (o : StreamOptions) (s : State) (fault : Option Fault) → run_on
 unfolding run
 run_none o s fault = refl
 
+-- no items more
+pub counted_none : (counts : Counts) → with_counted counts [] ≡ counts
+counted_none counts =
+    let s : counts.statements + 0 ≡ counts.statements = omega arith in
+    let n : counts.namespaces + 0 ≡ counts.namespaces = omega arith in
+    rw (s, n) refl
+
 -- the same lines, counts and fault
 same_outcome : (l l' : List ℕ) (c c' : Counts) (f : Option Fault) → l ≡ l' → c ≡ c' → ◌≡◌ {A = Outcome} (record { lines = l; counts = c; fault = f }) (record { lines = l'; counts = c'; fault = f })
 same_outcome l l' c c' f p q = ap (λ (x : List ℕ). record { lines = x; counts = c; fault = f }) p ∙ ap (λ (x : Counts). record { lines = l'; counts = x; fault = f }) q
 
 -- some items, and then others
-items_on : (writes : Item → List ℕ) (l l' : List ℕ) (c c' : Counts) (items : List Item) (next : Reading Item Fault) → l' ≡ l ++ flat_map writes items → c' ≡ with_counted c items
+pub items_on : (writes : Item → List ℕ) (l l' : List ℕ) (c c' : Counts) (items : List Item) (next : Reading Item Fault) → l' ≡ l ++ flat_map writes items → c' ≡ with_counted c items
     → outcome_of writes l c (followed items None next) ≡ outcome_of writes l' c' next
 items_on writes l l' c c' items next lines counts =
     same_outcome (l ++ flat_map writes (items ++ next.items)) (l' ++ flat_map writes next.items) (with_counted c (items ++ next.items)) (with_counted c' next.items) next.fault
@@ -75,21 +82,22 @@ module _ (bytes : List ℕ) (d d' : Decoding) (R : Reading Placed Fault) where
       ∙ ap (λ (w : Writing). outcome_of (written w) d'.page.lines d'.counts next) (sym writing)
       ∙ ap (λ (o : Options). outcome_of (written d'.writing) d'.page.lines d'.counts (run_on (options_seen bytes o) s' R')) (sym options)
 
-  halts : (fault : Fault) → run_on opts here R ≡ record { items = []; fault = Some fault } → d'.page.lines ≡ d.page.lines → Halts (outcome bytes d R) d' (refused.Malformed fault)
-  halts fault ran same = (
+  halts : (fault : Fault) → run_on opts here R ≡ record { items = []; fault = Some fault } → d'.page.lines ≡ d.page.lines → d'.counts ≡ d.counts → Halts (outcome bytes d R) d' (refused.Malformed fault)
+  halts fault ran same counts = (
     ap (λ (r : Reading Item Fault). r.fault) ran,
     ap (λ (r : Reading Item Fault). d.page.lines ++ flat_map (written d.writing) r.items) ran ∙ append-nil d.page.lines ∙ sym same,
+    ap (λ (r : Reading Item Fault). with_counted d.counts r.items) ran ∙ counted_none d.counts ∙ sym counts,
   )
 
   -- a row has a fault
-  pub halts_row : (p : Placed) (R' : Reading Placed Fault) (k : Kind) → R ≡ with_front p R' → step opts p.row here ≡ Err k → d'.page.lines ≡ d.page.lines
+  pub halts_row : (p : Placed) (R' : Reading Placed Fault) (k : Kind) → R ≡ with_front p R' → step opts p.row here ≡ Err k → d'.page.lines ≡ d.page.lines → d'.counts ≡ d.counts
       → Halts (outcome bytes d R) d' (refused.Malformed (record { place = p.place; kind = k }))
-  halts_row p R' k e said same =
-      halts (record { place = p.place; kind = k }) (ap (run_on opts here) e ∙ run_next opts here p R' ∙ ap (λ (x : Stepped). stepped p.place x (λ t. run_on opts t R')) said) same
+  halts_row p R' k e said same counts =
+      halts (record { place = p.place; kind = k }) (ap (run_on opts here) e ∙ run_next opts here p R' ∙ ap (λ (x : Stepped). stepped p.place x (λ t. run_on opts t R')) said) same counts
 
   -- the rows end in a fault
-  pub halts_read : (fault : Fault) → R ≡ record { items = []; fault = Some fault } → d'.page.lines ≡ d.page.lines → Halts (outcome bytes d R) d' (refused.Malformed fault)
-  halts_read fault e same = halts fault (ap (run_on opts here) e ∙ run_none opts here (Some fault)) same
+  pub halts_read : (fault : Fault) → R ≡ record { items = []; fault = Some fault } → d'.page.lines ≡ d.page.lines → d'.counts ≡ d.counts → Halts (outcome bytes d R) d' (refused.Malformed fault)
+  halts_read fault e same counts = halts fault (ap (run_on opts here) e ∙ run_none opts here (Some fault)) same counts
 
 -- one way, and then no further
 pub halts_then : (said said' : Outcome) (d : Decoding) (why : Refused) → said ≡ said' → Halts said' d why → Halts said d why

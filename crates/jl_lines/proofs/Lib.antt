@@ -4,8 +4,6 @@ pub mod GoingLemmas
 pub mod Laid
 pub mod Stretching
 pub mod GivingLemmas
-pub mod Waving
-pub mod Endings
 pub mod Pages
 pub mod Repeating
 pub mod RepeatingSteps

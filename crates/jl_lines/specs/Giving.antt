@@ -4,8 +4,8 @@ use Rattle.jl_base.specs.Causes.{Rose}
 use Rattle.jl_base.specs.Sinks.{Held, Adds, AddsFront}
 use Rattle.jl_base.specs.declared.place.Fault.{Fault}
 use Rattle.jl_lines.specs.Going.{Outcome}
-use Rattle.jl_lines.specs.declared.waves.Broken.{Broken}
-use Rattle.jl_lines.specs.declared.waves.Broken.TheVariants as broken
+use Rattle.jl_lines.specs.declared.giving.Broken.{Broken}
+use Rattle.jl_lines.specs.declared.giving.Broken.TheVariants as broken
 
 -- What a sink tells: what it was given, and how often it has failed.
 pub record Outlet : Type 0 where

@@ -51,12 +51,12 @@ counted d = d.counts.statements + d.counts.namespaces
 abbrev pub TakesRow : List ℕ → Stepped → Decoding → Decoding → Result (Unit {0}) Stop → Type 0
 TakesRow bytes said before after (Ok _) = (items : List Item) × (said ≡ Ok (state_seen bytes after.state, items))
     × (after.page.lines ≡ before.page.lines ++ flat_map (written before.writing) items) × (after.counts ≡ with_counted before.counts items)
-TakesRow bytes said before after (Err (stops.Fault kind)) = (said ≡ Err kind) × (after.page.lines ≡ before.page.lines)
+TakesRow bytes said before after (Err (stops.Fault kind)) = (said ≡ Err kind) × (after.page.lines ≡ before.page.lines) × (after.counts ≡ before.counts)
 TakesRow bytes said before after (Err stops.NoMemory) = Unit {0}
 
--- no further: at a fault, with all that is written before it on the page; or memory wasn't found
+-- no further: at a fault, with all that is written before it on the page, and counted; or memory wasn't found
 abbrev pub Halts : Outcome → Decoding → Refused → Type 0
-Halts said d (refused.Malformed fault) = (said.fault ≡ Some fault) × (said.lines ≡ d.page.lines)
+Halts said d (refused.Malformed fault) = (said.fault ≡ Some fault) × (said.lines ≡ d.page.lines) × (said.counts ≡ d.counts)
 Halts said d refused.NoMemory = Unit {0}
 
 -- What a decoding comes to is what it came to before: where it stopped on the way, or at the end; or it went no further.

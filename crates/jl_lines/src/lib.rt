@@ -1,19 +1,16 @@
-//! The decoding of a file by runs and waves: the N-Quads lines of its items, written straight from its bytes while its
-//! rows are read, or how many items there are.
+//! The N-Quads lines of the items of a stretch of frames, written straight from the bytes while the rows are read, or how
+//! many items there are; and the same of a run's rows from their tape.
 //!
-//! It promises that what it gives a sink is a prefix of the decoder's lines: all of them where nothing failed, those
-//! before the first fault where there is one; and that it counts the decoder's items. One function decodes a stretch of
-//! frames, whatever follows them; waves, the sink and the end of the file stand around it, once for lines and counts. It
-//! stands on jl_frames, jl_state, jl_rows and jl_text.
+//! It promises that what a decoding comes to in the end, its lines, counts and fault, stays what it was, however far it
+//! goes and whatever follows; and that what it gives a sink is a prefix of these lines: all of them where nothing failed,
+//! those before the first fault where there is one. It stands on jl_tape, jl_state, jl_rows and jl_text.
 #![tactic(auto)]
 
-mod count;
 mod decoding;
-mod file;
 mod frame;
+mod giving;
 mod known;
 mod line;
-mod nowhere;
 mod page;
 mod placing;
 mod statement;
@@ -21,13 +18,9 @@ mod stretch;
 mod taped;
 #[cfg(test)]
 mod tests;
-mod waves;
-mod write;
 mod writing;
 
-pub use count::count_items;
 pub use decoding::{Counts, Decoding, Refused};
-pub use file::Tally;
+pub use giving::Broken;
 pub use page::Page;
-pub use write::{Ended, write_lines};
 pub use writing::Writing;

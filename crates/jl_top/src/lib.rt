@@ -3,7 +3,7 @@
 //!
 //! It promises, of that one call, that status 0 comes with exactly the decoder's lines written, status 1 with the lines
 //! before the first fault and that fault's line, and every other status with its cause. It stands on jl_words for the
-//! job, jl_lines for the lines, jl_survey for the reports, jl_text for the notices and jl_base for the devices.
+//! job, jl_decode for the lines, jl_survey for the reports, jl_text for the notices and jl_base for the devices.
 #![tactic(auto)]
 
 mod gate;

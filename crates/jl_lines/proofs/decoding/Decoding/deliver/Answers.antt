@@ -1,6 +1,6 @@
-use Rattle.std.proofs.Common.{ap, sym, arith}
+use Rattle.std.proofs.Common.{ap, sym, ◌∙◌, arith, refl}
 use Rattle.std.proofs.lemmas.Result.{err_from_is_err_and}
-use Rattle.jl_lines.specs.declared.waves.Broken.TheVariants as broken
+use Rattle.jl_lines.specs.declared.giving.Broken.TheVariants as broken
 use Rattle.jl_lines.specs.Going.{outcome}
 use Rattle.jl_lines.specs.Giving.{outlet}
 use Rattle.jl_frames.specs.Stretches.{between}
@@ -23,6 +23,8 @@ by_page-init g c =
           passes_none (outcome c.args.bytes.now c.args.self.now (between c.args.bytes.now frames c.args.begin c.args.end B)) (outcome c.args.bytes.now c.args.self.now (left_from c.args.bytes.now frames (stand_at c.args.begin) c.args.end B)) (outlet g.K.Sink.held g.K.Sink.faults c.args.out.now)
           (ap (outcome c.args.bytes.now c.args.self.now) (sym (left_begins c.args.bytes.now frames c.args.end B c.args.begin)));
       kept = c.requires.kept;
+      options = refl;
+      writing = refl;
     })
 
 pub stretch-requires-clause-few : goal.stretch-requires-clause-few
@@ -68,6 +70,8 @@ by_page-preserved g c =
           passes_then a (outcome bytes c.stretch.new.self rest) k k' (passes_on a here k k' (c.by_page.invariant.went B) (outcome bytes c.stretch.new.self rest) comes) (outcome bytes c.give.new.self rest) k''
           (passes_gave bytes c.stretch.new.self c.give.new.self rest k' k'' gave.gives gave.empty gave.state gave.counts gave.writing));
       kept = kept_anew bytes c.give.new.self (rw gave.state c.in-Ok-Some.ensures.kept.lawful) gave.kept;
+      options = rw gave.state (c.in-Ok-Some.ensures.options ∙ c.by_page.invariant.options);
+      writing = gave.writing ∙ c.in-Ok-Some.ensures.writing ∙ c.by_page.invariant.writing;
     }
 
 pub returns-in-Ok-None-clause-comes : goal.returns-in-Ok-None-clause-comes

@@ -1,4 +1,4 @@
-use Rattle.std.proofs.Common.{◌+◌, ◌-◌, ◌≤◌}
+use Rattle.std.proofs.Common.{◌≡◌, ◌+◌, ◌-◌, ◌≤◌}
 use Rattle.jl_base.specs.Results.{Reading}
 use Rattle.jl_base.specs.declared.place.Fault.{Fault}
 use Rattle.jl_rows.specs.Files.{Placed}
@@ -18,6 +18,8 @@ invariant-by_page g l = record {
   few : counted l.self + behind l.frames l.fn.begin ≤ counted l.fn.self + reach_of l.frames l.stand;
   went : (B : Reading Placed Fault) → Passes (outcome l.bytes l.fn.self (between l.bytes l.frames l.fn.begin l.end B)) (outlet g.K.Sink.held g.K.Sink.faults l.fn.out) (outlet g.K.Sink.held g.K.Sink.faults l.out) (outcome l.bytes l.self (left_from l.bytes l.frames l.stand l.end B));
   kept : Keeps l.bytes l.self;
+  options : l.self.state.options ≡ l.fn.self.state.options;
+  writing : l.self.writing ≡ l.fn.self.writing;
 }
 
 abbrev pub decreases-by_page : goal.decreases-by_page

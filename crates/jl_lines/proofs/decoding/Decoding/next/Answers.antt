@@ -15,7 +15,7 @@ pub returns-in-Err-clause-comes : goal.returns-in-Err-clause-comes
 returns-in-Err-clause-comes c B =
     rw c.malformed.ensures
     (halts_read c.args.bytes.now c.args.self.now c.args.self.now (rest_of c.args.bytes.now c.args.frame c.args.before c.args.at B) _
-    (rows_broken c.args.frame.number c.args.before (slice_range c.args.bytes.now c.args.at c.args.frame.end) B c.in-Err.kind c.in-Err.ensures.exact) refl)
+    (rows_broken c.args.frame.number c.args.before (slice_range c.args.bytes.now c.args.at c.args.frame.end) B c.in-Err.kind c.in-Err.ensures.exact) refl refl)
 
 pub returns-in-Err-Fault-clause-comes : goal.returns-in-Err-Fault-clause-comes
 returns-in-Err-Fault-clause-comes c B =
@@ -25,7 +25,7 @@ returns-in-Err-Fault-clause-comes c B =
     (halts_row c.args.bytes.now c.args.self.now c.row.new.self (rest_of c.args.bytes.now c.args.frame c.args.before c.args.at B)
     (row_at c.args.frame.number c.args.before (row_seen c.args.bytes.now c.next_row_into.new.row)) (rest_of c.args.bytes.now c.args.frame (c.args.before + 1) c.in-Ok-Some.next B) c.in-Err-Fault.kind
     (rows_next c.args.frame.number c.args.before (slice_range c.args.bytes.now c.args.at c.args.frame.end) B (slice_range c.args.bytes.now c.in-Ok-Some.next c.args.frame.end) (row_seen c.args.bytes.now c.next_row_into.new.row) said)
-    stopped.0 stopped.1)
+    stopped.0 stopped.1 stopped.2)
 
 pub returns-in-Ok-clause-comes : goal.returns-in-Ok-clause-comes
 returns-in-Ok-clause-comes c B =

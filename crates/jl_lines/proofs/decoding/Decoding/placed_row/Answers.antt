@@ -15,4 +15,4 @@ pub returns-in-Err-Fault-clause-comes : goal.returns-in-Err-Fault-clause-comes
 returns-in-Err-Fault-clause-comes c B =
     let placed = placed_seen c.args.bytes.now c.args.placed.now in
     let stopped = rw c.in-Err-Fault.field-0-is at c.in-Err-Fault.ensures.exact in
-    halts_row c.args.bytes.now c.args.self.now c.row.new.self (with_front placed B) placed B c.in-Err-Fault.kind refl stopped.0 stopped.1
+    halts_row c.args.bytes.now c.args.self.now c.row.new.self (with_front placed B) placed B c.in-Err-Fault.kind refl stopped.0 stopped.1 stopped.2

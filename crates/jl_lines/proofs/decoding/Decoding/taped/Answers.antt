@@ -61,7 +61,7 @@ returns-in-Some-clause-comes c B =
     let ended = ap (λ (R : Reading Placed Fault). joined R B) (left_ended bytes tape c.args.fault c.loop-i.i all) ∙ ap (λ (x : Option Fault). joined (record { items = []; fault = x }) B) c.in-Some.is in
     halts_then (outcome bytes c.args.self.now (joined (reading_of bytes tape c.args.fault) B)) (outcome bytes c.loop-i.self (joined (left_on bytes tape c.loop-i.i c.args.fault) B)) c.loop-i.self (refused.Malformed c.in-Some.fault)
     (c.loop-i.invariant.went B)
-    (halts_read bytes c.loop-i.self c.loop-i.self (joined (left_on bytes tape c.loop-i.i c.args.fault) B) c.in-Some.fault ended refl)
+    (halts_read bytes c.loop-i.self c.loop-i.self (joined (left_on bytes tape c.loop-i.i c.args.fault) B) c.in-Some.fault ended refl refl)
 
 pub returns-in-None-clause-comes : goal.returns-in-None-clause-comes
 returns-in-None-clause-comes c B =

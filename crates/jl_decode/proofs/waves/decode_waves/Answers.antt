@@ -9,8 +9,8 @@ use Rattle.jl_lines.proofs.GivingLemmas.{passes_none, passes_on, passes_then, pa
 use Rattle.jl_frames.proofs.Stretches.{laid_count, laid_last}
 use Rattle.jl_frames.proofs.Stretches.{between_split}
 use Rattle.jl_lines.proofs.Stretching.{none_between}
-use Rattle.jl_lines.proofs.Waving.{ends_wave}
-use Rattle.jl_lines.proofs.decoding.Decoding.waves.Goals as goal
+use Rattle.jl_decode.proofs.Waving.{ends_wave}
+use Rattle.jl_decode.proofs.waves.decode_waves.Goals as goal
 
 pub overflow_sub-end : goal.overflow_sub-end
 overflow_sub-end g c =
@@ -73,7 +73,7 @@ returns-in_err-deliver-clause-comes g c B =
     let broke = rw (sym parts) at (c.in_err-deliver.ensures.comes rest) in
     let p = err_from_is_err_and c.from_residual.result c.from_residual.ensures.1 in
     rw (p.1, p.2)
-    (passes_breaks (outcome bytes c.args.self.now (between bytes frames 0 n B)) (outcome bytes c.loop-w.self (between bytes frames c.loop-w.done n B)) (outlet g.K.Sink.held g.K.Sink.faults c.args.out.now) (outlet g.K.Sink.held g.K.Sink.faults c.loop-w.out) (c.loop-w.invariant.went B)
+    (passes_breaks (outcome bytes c.args.decoding.now (between bytes frames 0 n B)) (outcome bytes c.loop-w.decoding (between bytes frames c.loop-w.done n B)) (outlet g.K.Sink.held g.K.Sink.faults c.args.out.now) (outlet g.K.Sink.held g.K.Sink.faults c.loop-w.out) (c.loop-w.invariant.went B)
     (outlet g.K.Sink.held g.K.Sink.faults c.deliver.new.out) c.in_err-deliver.field-0.0 broke)
 
 pub loop-w-init : goal.loop-w-init
@@ -109,7 +109,7 @@ loop-w-preserved g c =
           let rest = between bytes frames end n B in
           let parts = between_split bytes frames c.loop-w.done end n B (omega (arith, end_is, order)) (omega (arith, end_is, within)) (omega arith) in
           let came = rw (sym parts) at (c.in_ok-deliver.ensures.comes rest) in
-          passes_then (outcome bytes c.args.self.now (between bytes frames 0 n B)) (outcome bytes c.loop-w.self (between bytes frames c.loop-w.done n B)) (outlet g.K.Sink.held g.K.Sink.faults c.args.out.now) (outlet g.K.Sink.held g.K.Sink.faults c.loop-w.out) (c.loop-w.invariant.went B)
+          passes_then (outcome bytes c.args.decoding.now (between bytes frames 0 n B)) (outcome bytes c.loop-w.decoding (between bytes frames c.loop-w.done n B)) (outlet g.K.Sink.held g.K.Sink.faults c.args.out.now) (outlet g.K.Sink.held g.K.Sink.faults c.loop-w.out) (c.loop-w.invariant.went B)
           (outcome bytes c.deliver.new.self rest) (outlet g.K.Sink.held g.K.Sink.faults c.deliver.new.out) came);
       kept = c.in_ok-deliver.ensures.kept;
     }
@@ -122,5 +122,5 @@ returns-clause-comes g c B =
     let all : length c.args.plan.now ≤ min (c.loop-w.w * runs_per_wave) (length c.args.plan.now) = omega (arith, c.loop-w-test.false, c.waves-w-end.ensures) in
     let whole = whole_cover frames 0 c.args.plan.now n _ c.requires.cover all in
     let none = none_between bytes frames n B c.loop-w.done (omega (arith, whole, c.loop-w.invariant.runs)) in
-    passes_on (outcome bytes c.args.self.now (between bytes frames 0 n B)) (outcome bytes c.loop-w.self (between bytes frames c.loop-w.done n B)) (outlet g.K.Sink.held g.K.Sink.faults c.args.out.now) (outlet g.K.Sink.held g.K.Sink.faults c.loop-w.out) (c.loop-w.invariant.went B)
-    (outcome bytes c.loop-w.self B) (ap (outcome bytes c.loop-w.self) none)
+    passes_on (outcome bytes c.args.decoding.now (between bytes frames 0 n B)) (outcome bytes c.loop-w.decoding (between bytes frames c.loop-w.done n B)) (outlet g.K.Sink.held g.K.Sink.faults c.args.out.now) (outlet g.K.Sink.held g.K.Sink.faults c.loop-w.out) (c.loop-w.invariant.went B)
+    (outcome bytes c.loop-w.decoding B) (ap (outcome bytes c.loop-w.decoding) none)

@@ -7,9 +7,9 @@ use Rattle.jl_lines.specs.Counts.{none_counted}
 use Rattle.jl_lines.specs.Going.{Outcome, all_of, at_end}
 use Rattle.jl_lines.specs.Giving.{outlet}
 use Rattle.jl_lines.specs.Writings.{written}
-use Rattle.jl_lines.proofs.Endings.{decode_empty, decode_bad, decode_first, head_under}
+use Rattle.jl_decode.proofs.Endings.{decode_empty, decode_bad, decode_first, head_under}
 use Rattle.jl_lines.proofs.GivingLemmas.{breaks_fault, passes_none}
-use Rattle.jl_lines.proofs.file.decode_bytes.Goals as goal
+use Rattle.jl_decode.proofs.file.decode_bytes.Goals as goal
 
 pub returns-in-Empty : goal.returns-in-Empty
 returns-in-Empty g c =

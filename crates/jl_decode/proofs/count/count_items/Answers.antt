@@ -1,8 +1,8 @@
 use Rattle.std.proofs.Common.{[], None, length}
 use Rattle.jl_rows.specs.Decoder.{decode}
 use Rattle.jl_rows.specs.Files.{frames}
-use Rattle.jl_lines.proofs.Endings.{tallied}
-use Rattle.jl_lines.proofs.count.count_items.Goals as goal
+use Rattle.jl_decode.proofs.Endings.{tallied}
+use Rattle.jl_decode.proofs.count.count_items.Goals as goal
 
 pub returns-in-Ok : goal.returns-in-Ok
 returns-in-Ok c =

@@ -3,14 +3,12 @@ ghost use Rattle.std.specs.Prelude.{◌<◌, ◌≤◌, length};
 ghost use Rattle.jl_base.specs.Limits.{most_bytes};
 ghost use Rattle.jl_rows.specs.Decoder.{decode};
 ghost use Rattle.jl_rows.specs.Files.{frames};
-ghost use Rattle.jl_lines.specs.Counts.{Tallies};
+ghost use Rattle.jl_decode.specs.Tallies.{Tallies};
 
-use crate::decoding::Refused;
 use crate::file::{Tally, decode_file};
 use crate::nowhere::Nowhere;
-use crate::waves::Broken;
-use crate::writing::Writing;
 use jl_base::Space;
+use jl_lines::{Broken, Refused, Writing};
 use std::alloc::Global;
 
 /// Decodes a whole file, under the strict profile or not, by waves of runs of `per` frames, and counts its items. No text

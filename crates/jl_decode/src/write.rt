@@ -2,12 +2,11 @@
 ghost use Rattle.std.specs.Prelude.{◌<◌, ◌≤◌, length};
 ghost use Rattle.jl_base.specs.Limits.{most_bytes};
 ghost use Rattle.jl_rows.specs.Decoder.{decode};
-ghost use Rattle.jl_lines.specs.Writes.{WritesLines};
+ghost use Rattle.jl_decode.specs.Writes.{WritesLines};
 
 use crate::file::decode_file;
-use crate::waves::Broken;
-use crate::writing::Writing;
 use jl_base::{Fault, Sink, Space};
+use jl_lines::{Broken, Writing};
 use std::alloc::Global;
 
 /// How the writing of a file's lines ended.
@@ -19,7 +18,7 @@ pub enum Ended {
     Malformed(Fault),
     /// The sink failed. It was given a prefix of the lines.
     WriteFault,
-    /// Memory wasn't found. The sink was given a front of the lines.
+    /// Memory wasn't found. The sink was given a prefix of the lines.
     NoMemory,
 }
 

@@ -6,8 +6,8 @@ use Rattle.jl_base.specs.Causes.{Rose}
 use Rattle.jl_base.specs.Sinks.{Held, Adds}
 use Rattle.jl_base.specs.declared.place.Fault.{Fault}
 use Rattle.jl_text.specs.Line.{text}
-use Rattle.jl_lines.specs.declared.write.Ended.{Ended}
-use Rattle.jl_lines.specs.declared.write.Ended.TheVariants as ended
+use Rattle.jl_decode.specs.declared.write.Ended.{Ended}
+use Rattle.jl_decode.specs.declared.write.Ended.TheVariants as ended
 
 -- why it ended, with the lines that were left
 abbrev pub IsEndedBy : Reading Item Fault → List ℕ → ℕ → ℕ → Ended → Type 0

@@ -8,16 +8,16 @@ use Rattle.jl_lines.specs.Kept.{Keeps}
 use Rattle.jl_lines.specs.Going.{counted, outcome}
 use Rattle.jl_lines.specs.Giving.{Passes, outlet}
 use Rattle.jl_frames.specs.Stretches.{between}
-use Rattle.jl_lines.proofs.decoding.Decoding.waves.Given as goal
+use Rattle.jl_decode.proofs.waves.decode_waves.Given as goal
 
 -- from the first frame to the first one of wave w
 abbrev pub invariant-loop-w : goal.invariant-loop-w
 invariant-loop-w g l = record {
   runs : l.done ≡ frames_before l.plan (min (l.w * runs_per_wave) (length l.plan));
   within : l.done ≤ length l.frames.bodies;
-  empty : l.self.page.lines ≡ [];
-  few : counted l.self ≤ counted l.fn.self + behind l.frames l.done;
-  went : (B : Reading Placed Fault) → Passes (outcome l.bytes l.fn.self (between l.bytes l.frames 0 (length l.frames.bodies) B)) (outlet g.K.Sink.held g.K.Sink.faults l.fn.out) (outlet g.K.Sink.held g.K.Sink.faults l.out)
-      (outcome l.bytes l.self (between l.bytes l.frames l.done (length l.frames.bodies) B));
-  kept : Keeps l.bytes l.self;
+  empty : l.decoding.page.lines ≡ [];
+  few : counted l.decoding ≤ counted l.fn.decoding + behind l.frames l.done;
+  went : (B : Reading Placed Fault) → Passes (outcome l.bytes l.fn.decoding (between l.bytes l.frames 0 (length l.frames.bodies) B)) (outlet g.K.Sink.held g.K.Sink.faults l.fn.out) (outlet g.K.Sink.held g.K.Sink.faults l.out)
+      (outcome l.bytes l.decoding (between l.bytes l.frames l.done (length l.frames.bodies) B));
+  kept : Keeps l.bytes l.decoding;
 }

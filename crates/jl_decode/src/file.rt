@@ -6,16 +6,15 @@ ghost use Rattle.jl_rows.specs.Decoder.{decode, decoded_on};
 ghost use Rattle.jl_rows.specs.Files as files;
 ghost use Rattle.jl_rows.specs.Heads.{ArePassed};
 ghost use Rattle.jl_rows.specs.Seen.{options_seen};
-ghost use Rattle.jl_lines.specs.Counts.{counts_of};
+ghost use Rattle.jl_decode.specs.Tallies.{counts_of};
 ghost use Rattle.jl_lines.specs.Going.{all_of, at_end};
 ghost use Rattle.jl_lines.specs.Giving.{Delivers, outlet};
 ghost use Rattle.jl_lines.specs.Writings.{written};
 
-use crate::decoding::{Counts, Decoding};
-use crate::waves::Broken;
-use crate::writing::Writing;
+use crate::waves::decode_frames;
 use jl_base::{Sink, Space};
 use jl_frames::{Frames, Plan, index};
+use jl_lines::{Broken, Counts, Decoding, Writing};
 use jl_rows::{Head, Options, head_at};
 use std::alloc::Global;
 
@@ -102,5 +101,5 @@ fn decode_under<K: Sink>(
     let Ok(mut decoding) = Decoding::opening(alloc, bytes, options, writing) else {
         return Err(Broken::NoMemory);
     };
-    decoding.file(alloc, bytes, frames, &plan, out)
+    decode_frames(&mut decoding, alloc, bytes, frames, &plan, out)
 }

@@ -18,29 +18,24 @@ use Rattle.jl_state.proofs.StepLaw.{opening_stands}
 use Rattle.jl_state.proofs.RunLaw.{runs_decode}
 use Rattle.jl_lines.specs.declared.decoding.Counts.{Counts}
 use Rattle.jl_lines.specs.declared.decoding.Decoding.{Decoding}
-use Rattle.jl_lines.specs.declared.file.Tally.{Tally}
-use Rattle.jl_lines.specs.declared.waves.Broken.TheVariants as broken
-use Rattle.jl_lines.specs.declared.write.Ended.TheVariants as ended
+use Rattle.jl_decode.specs.declared.file.Tally.{Tally}
+use Rattle.jl_lines.specs.declared.giving.Broken.TheVariants as broken
+use Rattle.jl_decode.specs.declared.write.Ended.TheVariants as ended
 use Rattle.jl_lines.specs.declared.writing.Writing.{Writing}
-use Rattle.jl_lines.specs.Counts.{counts_of, none_counted, with_counted, statements, namespaces}
+use Rattle.jl_lines.specs.Counts.{none_counted, with_counted, statements, namespaces}
+use Rattle.jl_decode.specs.Tallies.{counts_of}
 use Rattle.jl_lines.specs.Writings.{written}
-use Rattle.jl_lines.specs.Writes.{WritesLines}
+use Rattle.jl_decode.specs.Writes.{WritesLines}
 use Rattle.jl_lines.specs.Going.{all_of, at_end, outcome, outcome_of}
 use Rattle.jl_lines.specs.Giving.{Outlet, Passes, Breaks}
-use Rattle.jl_lines.proofs.GoingLemmas.{run_none}
+use Rattle.jl_lines.proofs.GoingLemmas.{counted_none, run_none}
 
 -- no rows are left, and no lines
-counted_all : (counts : Counts) → with_counted counts [] ≡ counts
-counted_all counts =
-    let s : counts.statements + 0 ≡ counts.statements = omega arith in
-    let n : counts.namespaces + 0 ≡ counts.namespaces = omega arith in
-    rw (s, n) refl
-
 pub outcome_none : (bytes : List ℕ) (d : Decoding) (fault : Option Fault) → d.page.lines ≡ [] → outcome bytes d (record { items = []; fault = fault }) ≡ record { lines = []; counts = d.counts; fault = fault }
 outcome_none bytes d fault empty =
     ap (outcome_of (written d.writing) d.page.lines d.counts) (run_none (options_seen bytes d.state.options) (state_seen bytes d.state) fault)
     ∙ ap (λ (l : List ℕ). record { lines = l; counts = with_counted d.counts []; fault = fault }) (append-nil d.page.lines ∙ empty)
-    ∙ ap (λ (c : Counts). record { lines = []; counts = c; fault = fault }) (counted_all d.counts)
+    ∙ ap (λ (c : Counts). record { lines = []; counts = c; fault = fault }) (counted_none d.counts)
 
 -- from the opening state a run is the decoder
 pub opening_runs : (o : StreamOptions) (R : Reading Placed Fault) → run_on o (opening o) R ≡ decoded_on o [] R

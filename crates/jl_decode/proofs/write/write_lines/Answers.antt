@@ -1,8 +1,8 @@
 use Rattle.jl_rows.specs.Decoder.{decode}
-use Rattle.jl_lines.specs.Counts.{counts_of}
+use Rattle.jl_decode.specs.Tallies.{counts_of}
 use Rattle.jl_lines.specs.Giving.{outlet}
-use Rattle.jl_lines.proofs.Endings.{wrote_whole, wrote_malformed, wrote_failed, wrote_some}
-use Rattle.jl_lines.proofs.write.write_lines.Goals as goal
+use Rattle.jl_decode.proofs.Endings.{wrote_whole, wrote_malformed, wrote_failed, wrote_some}
+use Rattle.jl_decode.proofs.write.write_lines.Goals as goal
 
 pub returns-in-Ok : goal.returns-in-Ok
 returns-in-Ok g c =

@@ -1,0 +1,2 @@
+pub mod Waving
+pub mod Endings

@@ -1,2 +1,5 @@
 pub mod Waving
 pub mod Endings
+pub mod RunLemmas
+pub mod RowCounts
+pub mod PieceLemmas

@@ -8,6 +8,7 @@
 mod count;
 mod file;
 mod nowhere;
+mod piece;
 #[cfg(test)]
 mod tests;
 mod waves;
@@ -15,4 +16,5 @@ mod write;
 
 pub use count::count_items;
 pub use file::Tally;
+pub use piece::{LineTools, LineWork, Written};
 pub use write::{Ended, write_lines};

@@ -10,7 +10,7 @@ use Rattle.jl_frames.specs.Index.{Index, behind}
 use Rattle.jl_frames.specs.Runs.{Cover, frames_before}
 use Rattle.jl_frames.specs.Stretches.{between}
 use Rattle.jl_frames.proofs.RunLemmas.{run_in_cover}
-use Rattle.jl_frames.proofs.Stretches.{between_none, laid_last}
+use Rattle.jl_frames.proofs.Stretches.{between_none, laid_count, laid_last}
 use Rattle.jl_state.specs.Running.{at_place, state_of, after_rows, after_reading}
 use Rattle.jl_state.specs.States.{State}
 use Rattle.jl_state.specs.Steps.{step}
@@ -18,12 +18,14 @@ use Rattle.jl_sym.proofs.SumLemmas.{after_both}
 use Rattle.jl_sym.specs.declared.summary.Summary.{Summary}
 use Rattle.jl_tape.proofs.Stretches.{between_joined}
 use Rattle.jl_tape.specs.Runs.{no_rows, run_begin, run_end, run_rows}
+use Rattle.jl_tape.specs.Tapes.{HasRows, reading_of}
+use Rattle.jl_tape.specs.declared.tape.PlacedRow.{PlacedRow}
 use Rattle.jl_compose.specs.Blocks.{all_rows, seen_all, AreLawful, IsBounded}
 use Rattle.jl_compose.specs.Laws.{BothSum, SumsSettled}
 use Rattle.jl_compose.specs.Turns.{seen_act, ActsAlike, ActsInTurn, KeepsSettled}
 use Rattle.jl_scan.specs.declared.file.File.{File}
 use Rattle.jl_scan.specs.Costs.{through}
-use Rattle.jl_scan.specs.Fields.{Field, IsField, Sums, before, place, frames_of, rows, after}
+use Rattle.jl_scan.specs.Fields.{Field, HoldsRun, IsField, Sums, before, place, frames_of, rows, after}
 use Rattle.jl_scan.specs.Files.{IsFile, field_of}
 
 -- nothing comes after a fault
@@ -82,6 +84,13 @@ module _ (w : Field) (is : IsField w) where
   pub after_runs : (a b c : ℕ) (s : State) → a ≤ b → b ≤ c → after w a c s ≡ (after w a b s >>= λ t. after w b c t)
   after_runs a b c s le le' = ap (after_reading w.options s) (rows_joined a b c le le') ∙ after_joined w.options s (rows w a b) (rows w b c)
 
+  few_bodies : length w.index.bodies ≤ most_bytes
+  few_bodies =
+      let count = laid_count w.index.lo w.index.bodies is.laid.0 is.laid.1 in
+      let last = is.laid.2 in
+      let short = is.short in
+      omega (arith, count, last, short)
+
   -- two blocks have few rows together
   pub few_rows : (a b c : ℕ) (ms ns : List Summary) → place w a + 2 * all_rows ms ≤ place w b → place w b + 2 * all_rows ns ≤ place w c → all_rows ms + all_rows ns < 2 ^ 32
   few_rows a b c ms ns few few' =
@@ -131,6 +140,38 @@ module _ (w : Field) (is : IsField w) where
         few = omega (arith, low, high, count, few);
       }
 
+  -- a tape holds a run by what its reading promises
+  pub holds_run : (a : ℕ) (run : Run) (tape : List PlacedRow) (fault : Option Fault) → slice_get w.runs (w.lo + a) ≡ Some run → HasRows w.bytes tape → reading_of w.bytes tape fault ≡ run_rows w.bytes w.index run
+      → behind w.index (run_begin w.index run) + 2 * length tape ≤ behind w.index (run_end w.index run) → HoldsRun w a tape fault
+  holds_run a run tape fault e has read few =
+      let at = run_at a run e in
+      let low : behind w.index (run_begin w.index run) ≡ place w a = ap (behind w.index) at.begin in
+      let high : behind w.index (run_end w.index run) ≡ place w (a + 1) = ap (behind w.index) at.end in
+      record { has = has; reads = read ∙ at.rows_are; few = omega (arith, low, high, few) }
+
+  pub few_on_tape : (a : ℕ) (tape : List PlacedRow) (fault : Option Fault) → HoldsRun w a tape fault → length tape ≤ 2 ^ 30
+  few_on_tape a tape fault holds =
+      let few = holds.few in
+      let last = place_within (a + 1) in
+      let short = is.short in
+      let small : most_bytes ≡ 1073741824 = refl in
+      let big : 2 ^ 30 ≡ 1073741824 = refl in
+      omega (arith, few, last, short, small, big)
+
+  pub sums_tape : (a : ℕ) (tape : List PlacedRow) (fault : Option Fault) (m : Summary) (ms : List Summary) → HoldsRun w a tape fault → w.lo + a < length w.runs
+      → SumsSettled w.options (reading_of w.bytes tape fault) (seen_act w.bytes m) → ActsAlike w.options (seen_all w.bytes ms) (seen_act w.bytes m) → AreLawful w.options w.bytes ms → IsBounded w.options ms
+      → all_rows ms ≡ m.rows → m.rows ≤ length tape → Sums w a (a + 1) ms
+  sums_tape a tape fault m ms holds below sums alike lawful bounded count rows =
+      let few = holds.few in
+      record {
+        order = omega arith;
+        within = omega (arith, below);
+        acts = λ s settled. alike s settled ∙ (sums s settled ∙ ap (after_reading w.options s) holds.reads);
+        lawful = lawful;
+        bounded = bounded;
+        few = omega (arith, few, count, rows);
+      }
+
   pub sums_both : (a b c : ℕ) (ms ns ks : List Summary) → BothSum → KeepsSettled w.options (seen_all w.bytes ms) → Sums w a b ms → Sums w b c ns → ActsInTurn w.options (seen_all w.bytes ms) (seen_all w.bytes ns) (seen_all w.bytes ks)
       → AreLawful w.options w.bytes ks → IsBounded w.options ks → all_rows ks ≡ all_rows ms + all_rows ns → Sums w a c ks
   sums_both a b c ms ns ks law keeps left right turn lawful bounded count =
@@ -161,3 +202,6 @@ nothing_after o s = refl
 
 pub starts : (w : Field) (a : ℕ) (s : State) → after w a a s ≡ Ok s
 starts w a s = ap (after_reading w.options s) (between_none w.bytes w.index (before w a) (before w a) no_rows (omega arith)) ∙ nothing_after w.options s
+
+pub through_few : (w : Field) (b : ℕ) → IsField w → through (frames_of w) b ≤ most_bytes
+through_few w b is = let sum = through_is w b in let within = before_within w is b in let few = few_bodies w is in omega (arith, sum, within, few)

@@ -1,5 +1,6 @@
 -- What holds of the runs of a field.
 use Rattle.std.specs.Prelude.{◌≡◌, ℕ, ◌+◌, ◌≤◌, Ok}
+use Rattle.jl_base.specs.Limits.{most_bytes}
 use Rattle.jl_base.specs.Results.{◌>>=◌}
 use Rattle.jl_rows.specs.History.{History}
 use Rattle.jl_state.specs.Stands.{Stands}
@@ -29,3 +30,7 @@ RunsLead = (w : Field) (a b : ℕ) (H : History) (s : State) → Stands w.option
 -- the frames of the first runs are those that stand before the next run
 abbrev pub FramesAddUp : Type 0
 FramesAddUp = (w : Field) (b : ℕ) → through (frames_of w) b + before w 0 ≡ before w b
+
+-- and so they are never more than a file may have bytes
+abbrev pub FramesAreFew : Type 0
+FramesAreFew = (w : Field) (b : ℕ) → IsField w → through (frames_of w) b ≤ most_bytes

@@ -1,5 +1,5 @@
 -- What a scan is of: some runs of a file. What their rows do to a state, and what sums them.
-use Rattle.std.specs.Prelude.{◌≡◌, ◌==◌, ◌&&◌, Bool, ℕ, ◌+◌, ◌-◌, ◌*◌, ◌≤◌, false, List, [], length, None, Result}
+use Rattle.std.specs.Prelude.{◌≡◌, ◌==◌, ◌&&◌, Bool, ℕ, ◌+◌, ◌-◌, ◌*◌, ◌≤◌, false, List, [], length, Option, None, Result}
 use Rattle.jl_base.specs.Limits.{most_bytes}
 use Rattle.jl_base.specs.Results.{Reading}
 use Rattle.jl_base.specs.declared.place.Fault.{Fault}
@@ -17,6 +17,8 @@ use Rattle.jl_state.specs.declared.state.State as code
 use Rattle.jl_sym.specs.declared.summary.Summary.{Summary}
 use Rattle.jl_sym_laws.specs.Staying.{IsSettled}
 use Rattle.jl_tape.specs.Runs.{no_rows}
+use Rattle.jl_tape.specs.Tapes.{HasRows, reading_of}
+use Rattle.jl_tape.specs.declared.tape.PlacedRow.{PlacedRow}
 use Rattle.jl_compose.specs.Blocks.{all_rows, seen_all, AreLawful, IsBounded}
 use Rattle.jl_compose.specs.Laws.{SumsSettled}
 
@@ -71,6 +73,12 @@ pub record Sums (w : Field) (a b : ℕ) (ms : List Summary) : Type 0 where
   pub lawful : AreLawful w.options w.bytes ms
   pub bounded : IsBounded w.options ms
   pub few : place w a + 2 * all_rows ms ≤ place w b
+
+-- A tape holds the rows of run a, up to the fault that ends them if there is one, and these take two bytes each at least.
+pub record HoldsRun (w : Field) (a : ℕ) (tape : List PlacedRow) (fault : Option Fault) : Type 0 where
+  pub has : HasRows w.bytes tape
+  pub reads : reading_of w.bytes tape fault ≡ rows w a (a + 1)
+  pub few : place w a + 2 * length tape ≤ place w (a + 1)
 
 -- the state that the code's state stands for
 abbrev pub seen : Field → code.State → State

@@ -60,7 +60,7 @@ pub(crate) fn cell<F: Scanned>(scan: &Scan<'_, F>, level: u32, k: u64) -> u64
 }
 
 // What is in the block's cell, where it is of the block's runs.
-fn at_hand<'s, 'a, F: Scanned>(
+pub(crate) fn at_hand<'s, 'a, F: Scanned>(
     scan: &'s Scan<'a, F>,
     pass: &mut Pass<Published<F>>,
     level: u32,

@@ -1,5 +1,5 @@
 //! What holds of blocks, walks and runs, for all of them: laws, each the contract of a function that does nothing.
-ghost use Rattle.jl_scan.specs.FieldLaws.{FilesAreFields, FramesAddUp, NoRuns, RunsInTurn, RunsLead};
+ghost use Rattle.jl_scan.specs.FieldLaws.{FilesAreFields, FramesAddUp, FramesAreFew, NoRuns, RunsInTurn, RunsLead};
 ghost use Rattle.jl_scan.specs.Laws.{CellsApart, CellsFilled, CellsWithin, CostIsWithin, CostSpares, CostsAreWithin, EdgeIsPower, WalkGoes, WalkIsShort};
 
 /// Block k of a level begins at k times two to the power of the level.
@@ -42,7 +42,9 @@ pub fn runs()
     ensures leads { RunsLead }
 {}
 
-/// The frames of the first runs, added up, are those that stand before the next run.
+/// The frames of the first runs, added up, are those that stand before the next run, and so they are never more than a
+/// file may have bytes.
 pub fn frames()
-    ensures { FramesAddUp }
+    ensures add { FramesAddUp }
+    ensures few { FramesAreFew }
 {}

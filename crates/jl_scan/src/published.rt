@@ -1,14 +1,16 @@
 //! What some runs do, as callers share it.
 ghost use Rattle.std.specs.Prelude.{◌≡◌, ◌+◌, ◌<◌, ◌≤◌, ◌^◌, length, IfOk, OnOk};
 ghost use Rattle.jl_apply.specs.Applying.{Applies};
-ghost use Rattle.jl_scan.specs.Fields.{Field, IsStateOf, after, frames_of, is_of, no_field, seen};
+ghost use Rattle.jl_scan.specs.Fields.{Field, HoldsRun, IsStateOf, after, frames_of, is_of, no_field, seen};
 ghost use Rattle.jl_scan.specs.Files.{IsFile, field_of};
 
 use crate::File;
 use jl_apply::Halt;
+use jl_base::Fault;
 use jl_compose::Block;
 use jl_state::State;
 use jl_sym::Steps;
+use jl_tape::Tape;
 use std::alloc::{AllocError, Global};
 use std::marker::{Brand, Model, PhantomData};
 use std::sync::ledger::Ledger;
@@ -64,6 +66,31 @@ impl<F: Scanned> Published<F> {
     {
         let _runs = file.plan.runs();
         let block = crate::summing::of_run(alloc, file, lo, k, steps)?;
+        Ok(Published {
+            first: k,
+            end: k + 1,
+            block,
+            of: PhantomData,
+        })
+    }
+
+    /// Of one run whose rows a tape holds, up to the fault that ends them if there is one. No step is counted: whoever
+    /// read the tape has seen the frames.
+    pub fn of_tape(
+        alloc: Global,
+        file: &File<'_>,
+        k: u64,
+        tape: &Tape,
+        fault: Option<Fault>,
+    ) -> Result<Published<F>, AllocError>
+        requires file { IsFile file.now }
+        requires field { F.field ≡ field_of file.now F.field.lo }
+        requires within { F.field.lo + k < length file.now.plan.now }
+        requires tape { HoldsRun F.field k tape.now fault }
+        ensures is { IfOk result (λ p. p ≡ (k, k + 1)) }
+    {
+        let _runs = file.plan.runs();
+        let block = crate::summing::of_tape(alloc, file, tape, fault)?;
         Ok(Published {
             first: k,
             end: k + 1,

@@ -1,23 +1,24 @@
 //! Some runs of a file, with a cell for each block of them.
-ghost use Rattle.std.specs.Prelude.{◌≡◌, ◌+◌, ◌<◌, ◌≤◌, ◌^◌, length, IfOk};
+ghost use Rattle.std.specs.Prelude.{◌≡◌, ◌+◌, ◌<◌, ◌≤◌, ◌^◌, length, All, IfOk, OnOk};
 ghost use Rattle.std.specs.FinMap.{contains_key, empty};
 ghost use Rattle.jl_cells.specs.Knowledge.{Keeps};
 ghost use Rattle.jl_state.specs.States.{opening};
 ghost use Rattle.jl_scan.specs.Blocks.{blocks, cell_of, edge};
 ghost use Rattle.jl_scan.specs.Costs.{cost_of, through};
-ghost use Rattle.jl_scan.specs.Fields.{IsStateOf, frames_of, seen};
+ghost use Rattle.jl_scan.specs.Fields.{HoldsRun, IsStateOf, frames_of, seen};
 ghost use Rattle.jl_scan.specs.Files.{IsFile, field_of};
-ghost use Rattle.jl_scan.specs.Reaching.{Reaches, is_at_hand};
+ghost use Rattle.jl_scan.specs.Reaching.{IsKnown, Reaches, is_at_hand};
 ghost use Rattle.jl_scan.specs.Walk.{walk};
 
-use crate::block::cell;
+use crate::block::{at_hand, cell};
 use crate::numbers::{block_at, edge_after};
-use crate::reaching::over;
+use crate::reaching::{know_walk, over};
 use crate::{File, Published, Scanned};
 use jl_base::Fault;
 use jl_cells::{Cells, Pass};
 use jl_state::State;
 use jl_sym::Steps;
+use jl_tape::{Tape, read_run};
 use std::alloc::{AllocError, Global};
 use std::sync::ledger::Ledger;
 
@@ -107,6 +108,7 @@ impl<'a, F: Scanned> Scan<'a, F> {
         ensures kept { Keeps pass.old pass.new }
         ensures cells { pass.new.cells ≡ pass.old.cells }
         ensures ticks { steps.new ≤ steps.old + cost_of (is_at_hand self.now.runs pass.old.known) (frames_of F.field) (walk from to) }
+        ensures within { steps.new + through (frames_of F.field) from ≤ steps.old + through (frames_of F.field) to }
     {
         let mut a = from;
         'by_block: while a < to {
@@ -117,5 +119,69 @@ impl<'a, F: Scanned> Scan<'a, F> {
             a = edge_after(at);
         }
         Ok(None)
+    }
+
+    /// Reads the rows of a run onto a tape, in place of those that it had, up to the run's first fault, which it answers.
+    /// No step is counted.
+    pub fn read(&self, tape: &mut Tape, k: u64) -> Result<Option<Fault>, AllocError>
+        requires file { IsFile self.now.file }
+        requires within { k < self.now.runs }
+        ensures holds { IfOk result (HoldsRun F.field k tape.new) }
+    {
+        jl_tape::laws::planned_runs();
+        let file = &self.file;
+        let _runs = file.plan.runs();
+        let run = file.plan.run(self.lo + k);
+        let fault = read_run(tape, file.space.bytes(), file.frames, run)?;
+        Ok(fault)
+    }
+
+    /// Gives the others what a run does, by its rows, which the caller has read onto a tape: from then on the run is in
+    /// its cell. Where the cell has it already, nothing is made. It counts no step, since the frames were read elsewhere.
+    pub fn publish(
+        &self,
+        alloc: Global,
+        pass: &mut Pass<Published<F>>,
+        k: u64,
+        tape: &Tape,
+        fault: Option<Fault>,
+    ) -> Result<(), AllocError>
+        requires file { IsFile self.now.file }
+        requires cells { pass.old.cells ≡ self.now.cells }
+        requires within { k < self.now.runs }
+        requires tape { HoldsRun F.field k tape.now fault }
+        ensures known { OnOk result (IsKnown self.now.runs pass.new.known (record { level = 0; k = k })) }
+        ensures kept { Keeps pass.old pass.new }
+        ensures cells { pass.new.cells ≡ pass.old.cells }
+    {
+        if at_hand(self, pass, 0, k).is_some() {
+            return Ok(());
+        }
+        let value = Published::of_tape(alloc, &self.file, k, tape, fault)?;
+        let value = Box::new(alloc, value)?;
+        self.cells.put(pass, cell(self, 0, k), value);
+        Ok(())
+    }
+
+    /// Makes the walk from the scan's first run to another one known to the pass: each of its blocks is looked up, or
+    /// built as `reach` builds it and given to the others. Blocks whose cells the pass knows already take next to no time.
+    pub fn know<L: Ledger>(
+        &self,
+        alloc: Global,
+        pass: &mut Pass<Published<F>>,
+        steps: &mut Steps<L>,
+        to: u64,
+    ) -> Result<(), AllocError>
+        requires file { IsFile self.now.file }
+        requires cells { pass.old.cells ≡ self.now.cells }
+        requires within { to ≤ self.now.runs }
+        requires room { steps.old + through (frames_of F.field) to ≤ 2 ^ 63 }
+        ensures known { OnOk result (All (IsKnown self.now.runs pass.new.known) (walk 0 to)) }
+        ensures kept { Keeps pass.old pass.new }
+        ensures cells { pass.new.cells ≡ pass.old.cells }
+        ensures ticks { steps.new ≤ steps.old + cost_of (is_at_hand self.now.runs pass.old.known) (frames_of F.field) (walk 0 to) }
+        ensures within { steps.new ≤ steps.old + through (frames_of F.field) to }
+    {
+        know_walk(alloc, self, pass, steps, 0, to)
     }
 }

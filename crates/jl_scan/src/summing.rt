@@ -1,11 +1,13 @@
 // Blocks of runs of a file.
 ghost use Rattle.std.specs.Prelude.{◌≡◌, ℕ, ◌+◌, ◌<◌, ◌≤◌, ◌^◌, length, IfOk};
-ghost use Rattle.jl_scan.specs.Fields.{Sums, frames_of};
+ghost use Rattle.jl_scan.specs.Fields.{HoldsRun, Sums, frames_of};
 ghost use Rattle.jl_scan.specs.Files.{IsFile, field_of};
 
 use crate::File;
+use jl_base::Fault;
 use jl_compose::{Block, laws};
-use jl_sym::{Steps, summarise};
+use jl_sym::{Marks, Steps, summarise, summarise_tape};
+use jl_tape::Tape;
 use std::alloc::{AllocError, Global};
 use std::sync::ledger::Ledger;
 
@@ -29,6 +31,26 @@ pub(crate) fn of_run<L: Ledger>(
     let run = file.plan.run(lo + k);
     let summary = summarise(alloc, file.space, file.frames, file.options, run, steps)?;
     let block = Block::of(alloc, file.space.bytes(), file.options, summary)?;
+    Ok(block)
+}
+
+// What one run does, whose rows were read already.
+pub(crate) fn of_tape(
+    alloc: Global,
+    file: &File<'_>,
+    tape: &Tape,
+    fault: Option<Fault>,
+) -> Result<Block, AllocError>
+    requires file { IsFile file.now }
+    requires run { (lo : ℕ) × (k : ℕ) × HoldsRun (field_of file.now lo) k tape.now fault }
+    ensures sums { (lo k : ℕ) → lo + k < length file.now.plan.now → HoldsRun (field_of file.now lo) k tape.now fault
+        → IfOk result (λ b. Sums (field_of file.now lo) k (k + 1) b.leaves.items) }
+{
+    laws::sums_lead();
+    let bytes = file.space.bytes();
+    let mut marks = Marks::new(alloc);
+    let summary = summarise_tape(alloc, bytes, file.options, tape, fault, &mut marks)?;
+    let block = Block::of(alloc, bytes, file.options, summary)?;
     Ok(block)
 }
 

@@ -4,6 +4,7 @@ use Rattle.jl_scan.specs.Walk.{walk}
 use Rattle.jl_scan.specs.Costs.{cost_of, through}
 use Rattle.jl_scan.specs.Fields.{IsField, after, frames_of, seen}
 use Rattle.jl_scan.specs.Reaching.{block_of, IsFaulty, IsKnown, is_at_hand}
+use Rattle.jl_scan.proofs.AskedLemmas.{cost_is_within}
 use Rattle.jl_scan.proofs.BlockLemmas.{edge_rises}
 use Rattle.jl_scan.proofs.CostLemmas.{cost_weight}
 use Rattle.jl_scan.proofs.FieldLemmas.{field_is, goes, starts, stops}
@@ -44,6 +45,14 @@ returns-in_err-fault-clause-ticks g c =
     let more = later c.args.pass.now.known c.by_block.pass.known I.kept n in
     let step = ticks_step frames has has' more c.by_block.a c.args.to (block_of at) c.by_block.steps c.over.new.steps (c.args.steps.now + cost_of has frames (walk c.args.from c.args.to)) is c.by_block-test.true c.over.ensures.ticks I.ticks in
     omega (arith, step)
+
+pub returns-in_err-fault-clause-within : goal.returns-in_err-fault-clause-within
+returns-in_err-fault-clause-within g c =
+    let frames = frames_of g.F.Scanned.field in
+    let has = is_at_hand c.args.self.now.runs c.args.pass.now.known in
+    let ticks = returns-in_err-fault-clause-ticks g c in
+    let most = cost_is_within has frames c.args.from c.args.to c.requires.order in
+    omega (arith, ticks, most)
 
 pub returns-in-Some-clause-reaches : goal.returns-in-Some-clause-reaches
 returns-in-Some-clause-reaches g c =
@@ -87,6 +96,14 @@ returns-in-Some-clause-ticks g c =
     let step = ticks_step frames has has' more c.by_block.a c.args.to (block_of at) c.by_block.steps c.over.new.steps (c.args.steps.now + cost_of has frames (walk c.args.from c.args.to)) is c.by_block-test.true c.over.ensures.ticks I.ticks in
     omega (arith, step)
 
+pub returns-in-Some-clause-within : goal.returns-in-Some-clause-within
+returns-in-Some-clause-within g c =
+    let frames = frames_of g.F.Scanned.field in
+    let has = is_at_hand c.args.self.now.runs c.args.pass.now.known in
+    let ticks = returns-in-Some-clause-ticks g c in
+    let most = cost_is_within has frames c.args.from c.args.to c.requires.order in
+    omega (arith, ticks, most)
+
 pub by_block-smaller : goal.by_block-smaller
 by_block-smaller g c =
     let at = c.block_at-at.result in
@@ -119,7 +136,7 @@ by_block-preserved g c =
     let more = later c.args.pass.now.known c.by_block.pass.known I.kept n in
     let t = c.args.steps.now + cost_of has frames (walk c.args.from c.args.to) in
     let step = ticks_step frames has has' more c.by_block.a c.args.to (block_of at) c.by_block.steps c.over.new.steps t is c.by_block-test.true c.over.ensures.ticks I.ticks in
-    let behind = room_after frames at.level at.k c.by_block.a c.args.to c.by_block.steps c.over.new.steps _ (2 ^ 63) begin I.room c.over.ensures.ticks (cost_weight frames has' at.level at.k) in
+    let room = room_after frames at.level at.k c.by_block.a c.args.to c.by_block.steps c.over.new.steps _ (2 ^ 63) begin I.room c.over.ensures.ticks (cost_weight frames has' at.level at.k) in
     record {
       first = omega (arith, begin, end, order, rises);
       order = omega (arith, within, end);
@@ -133,7 +150,7 @@ by_block-preserved g c =
         known_more n c.by_block.pass.known c.over.new.pass.known c.over.ensures.kept I.done.0 (block_of at) I.done.2 c.in_ok-fault.ensures.known,
       );
       ticks = subst (λ (x : ℕ). c.over.new.steps + cost_of has frames (walk x c.args.to) ≤ t) (sym end) step;
-      room = subst (λ (x : ℕ). c.over.new.steps + through frames c.args.to ≤ 2 ^ 63 + through frames x) (sym end) behind;
+      room = subst (λ (x : ℕ). c.over.new.steps + through frames c.args.to ≤ 2 ^ 63 + through frames x) (sym end) room;
     }
 
 pub returns-clause-reaches : goal.returns-clause-reaches
@@ -147,3 +164,11 @@ returns-clause-reaches g c =
       subst (λ (x : ℕ). after w c.args.from x (seen w c.args.state.now) ≡ Ok (seen w c.by_block.state)) all I.leads,
       subst (λ (bs : List Block). All (IsKnown c.args.self.now.runs c.by_block.pass.known) bs) (done_all I.done.0 (walk c.args.from c.args.to) c.by_block.a c.args.to past I.done.1) I.done.2,
     )
+
+pub returns-clause-within : goal.returns-clause-within
+returns-clause-within g c =
+    let frames = frames_of g.F.Scanned.field in
+    let has = is_at_hand c.args.self.now.runs c.args.pass.now.known in
+    let ticks = c.by_block.invariant.ticks in
+    let most = cost_is_within has frames c.args.from c.args.to c.requires.order in
+    omega (arith, ticks, most)

@@ -1,5 +1,5 @@
 //! What a row asks of the state before the run.
-ghost use Rattle.std.specs.Prelude.{◌≡◌, ◌≤◌, ◌++◌, ◌∷◌, [], true, OnOk, OnErr, length};
+ghost use Rattle.std.specs.Prelude.{◌≡◌, ◌≤◌, ◌++◌, ◌∷◌, [], true, Ok, OnOk, OnErr, length};
 ghost use Rattle.jl_base.specs.Limits.{most_bytes};
 ghost use Rattle.jl_rows.specs.Decoder.{size_of};
 ghost use Rattle.jl_rows.specs.Seen as rows;
@@ -141,11 +141,11 @@ impl Asker<'_, '_> {
         marks: &mut Marks,
         table: Table,
         id: RelativeId,
-    ) -> Result<(), Stop>
+    ) -> Result<(), AllocError>
         requires good { AreAsked (earlier_of self.now) (demands_seen demands.old.items) marks.old }
         requires made { cutting.IsMadeReference table (id_seen id) }
-        ensures asks { Asks (options_of self.now.here.now) (earlier_of self.now) self.now.here.now.place (demands_seen demands.old.items)
-            (small.demand self.now.here.now.place Kind.NoEntry (sums.Filled table (id_seen id)) ∷ []) (demands_seen demands.new.items) result }
+        ensures asks { OnOk result (Asks (options_of self.now.here.now) (earlier_of self.now) self.now.here.now.place (demands_seen demands.old.items)
+            (small.demand self.now.here.now.place Kind.NoEntry (sums.Filled table (id_seen id)) ∷ []) (demands_seen demands.new.items) (Ok tt)) }
         ensures good { AreAsked (earlier_of self.now) (demands_seen demands.new.items) marks.new }
     {
         self.push(demands, Kind::NoEntry, Need::Filled(table, id))?;
@@ -183,7 +183,8 @@ impl Asker<'_, '_> {
         if marks.has_slot(table, id) {
             return Ok(());
         }
-        self.ask_slot(demands, marks, table, id)
+        self.ask_slot(demands, marks, table, id)?;
+        Ok(())
     }
 
     /// An IRI, whose ids become the last ones.
@@ -288,7 +289,11 @@ impl Asker<'_, '_> {
         ensures last { OnOk result (HasLast last.new) }
     {
         if let RawTerm::Triple(_) = raw {
-            return self.any_term(demands, marks, last, x, raw);
+            // Copies go on, so that for all other terms these stay in registers.
+            let (asker, mut ids) = (*self, *last);
+            asker.any_term(demands, marks, &mut ids, x, raw)?;
+            *last = ids;
+            return Ok(());
         }
         self.stands(x, raw)?;
         self.leaf(demands, marks, last, raw)

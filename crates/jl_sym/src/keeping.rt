@@ -40,7 +40,10 @@ impl Asker<'_, '_> {
         ensures good { AreAsked (earlier_of self.now) (demands_seen demands.new.items) marks.new }
     {
         match left {
-            Last::Incoming => self.ask(demands, marks, kind, Need::Has(kept)),
+            Last::Incoming => {
+                let asker = *self;
+                asker.ask(demands, marks, kind, Need::Has(kept))
+            }
             Last::Cleared => Err(Stop::Fault(kind)),
             Last::Set { .. } => Ok(()),
         }

@@ -6,12 +6,11 @@
 //! job, jl_decode for the lines, jl_survey for the reports, jl_text for the notices and jl_base for the devices.
 #![tactic(auto)]
 
-mod gate;
 mod gather;
 mod run;
 mod top;
 
-pub use gate::Gate;
+pub use jl_drive::Gate;
 pub use jl_words::{Command, Job, files, job, output};
 pub use top::serve;
 

@@ -103,7 +103,7 @@ pub fn serve<R: Threads + Sync, S: Source, K: Shelf, E: Sink, G: Gate>(
     ensures number { length sources.new.items ≡ length sources.old.items }
     ensures faults { (K.faults out.old ≤ K.faults out.new) × (E.faults err.old ≤ E.faults err.new) }
 {
-    match run(alloc, words, sources, out) {
+    match run(rt, alloc, words, sources, out, gate) {
         Ok(()) => 0,
         Err(notice) => {
             tell(err, notice);

@@ -1,5 +1,4 @@
-use Rattle.std.proofs.Common.{◌≡◌, ℕ, ◌+◌, ◌<◌, List, sym, subst, arith}
-use Rattle.jl_rows.specs.Seen.{options_seen}
+use Rattle.std.proofs.Common.{◌≡◌, ℕ, ◌+◌, List, sym, subst}
 use Rattle.jl_tape.specs.Runs.{run_rows}
 use Rattle.jl_tape.specs.Tapes.{HasRows, reading_of}
 use Rattle.jl_scan.specs.Fields.{Field, HoldsRun}

@@ -3,3 +3,8 @@ pub mod Endings
 pub mod RunLemmas
 pub mod RowCounts
 pub mod PieceLemmas
+pub mod PieceLaws
+pub mod PieceGiving
+pub mod WaveLaws
+pub mod DrivenLemmas
+pub mod Sharing

@@ -1,5 +1,5 @@
 -- What is on a page after a tape.
-use Rattle.std.proofs.Common.{◌≡◌, ℕ, List, [], ◌++◌, Option, Some, None, refl, ap, sym, ◌∙◌, append-nil}
+use Rattle.std.proofs.Common.{◌≡◌, ℕ, List, [], ◌++◌, Some, None, ap, sym, ◌∙◌, append-nil}
 use Rattle.std.specs.List.{flat_map}
 use Rattle.jl_base.specs.Results.{Reading, joined}
 use Rattle.jl_base.specs.Terms.{Item}

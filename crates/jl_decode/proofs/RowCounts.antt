@@ -1,10 +1,10 @@
 -- How many items some rows state, and how many rows some frames have: no more than bytes.
-use Rattle.std.proofs.Common.{◌≡◌, ◌&&◌, ◌==◌, ℕ, zero, suc, ◌+◌, ◌-◌, ◌≤◌, not, is_some, List, [], ◌∷◌, ◌++◌, length, map, take, drop, slice_range, Option, Some, None, Result, Ok, Err, nat_lt, refl, ap, sym, ◌∙◌, length-append, arith}
-use Rattle.jl_base.specs.Results.{◌>>=◌, Reading, followed, joined, led, refuse_if, some_or, with_front}
+use Rattle.std.proofs.Common.{◌≡◌, ◌&&◌, ◌==◌, ℕ, zero, suc, ◌+◌, ◌-◌, ◌≤◌, not, is_some, List, [], ◌∷◌, length, map, take, drop, slice_range, Option, Some, None, Result, Ok, Err, refl, ap, length-append, arith}
+use Rattle.jl_base.specs.Results.{◌>>=◌, Reading, followed, led, refuse_if, some_or, with_front}
 use Rattle.jl_base.specs.Spans.{text_of}
-use Rattle.jl_base.specs.Terms.{Item, Value}
+use Rattle.jl_base.specs.Terms.{Item}
 use Rattle.jl_base.specs.declared.kind.Kind.{Kind}
-use Rattle.jl_base.specs.declared.kind.Kind.TheVariants.{OptionsDiffer, WrongRow, BadEntry, NoTerm, NoGraph, GraphOpen, EarlyNamespace}
+use Rattle.jl_base.specs.declared.kind.Kind.TheVariants.{OptionsDiffer, WrongRow, NoTerm, NoGraph, GraphOpen, EarlyNamespace}
 use Rattle.jl_base.specs.declared.place.Fault.{Fault}
 use Rattle.jl_base.specs.declared.place.Place.{Place}
 use Rattle.jl_base.specs.declared.place.Span.{Span}

@@ -11,10 +11,11 @@ use jl_base::Fault;
 use jl_lines::{Counts, Decoding, Page, Refused, Writing};
 use jl_state::State;
 use jl_tape::Tape;
+use jl_wave::Making;
 use std::alloc::{AllocError, Global};
 use std::mem;
 
-/// How runs are made into pages.
+/// What is written of runs, from their tapes. It takes memory for lines only where no page has room for them.
 #[derive(Clone, Copy, Debug)]
 pub struct LineWork {
     pub writing: Writing,
@@ -71,10 +72,14 @@ fn spare(alloc: Global, pages: &mut Vec<Page>) -> Page
     }
 }
 
-impl LineWork {
-    /// What is written and counted of a tape's rows from a state on, and the fault that ends them; the state after them
-    /// stands in its place. Takes memory for lines only where no page has room for them.
-    pub fn make(
+impl Making for LineWork {
+    type Tools = LineTools;
+
+    type Made = Written;
+
+    ghost makes = { λ work said made. IsWritten work.writing said made };
+
+    fn make(
         &self,
         alloc: Global,
         bytes: &[u8],
@@ -82,16 +87,7 @@ impl LineWork {
         fault: Option<Fault>,
         tools: &mut LineTools,
         state: &mut State,
-    ) -> Result<(Written, Option<Fault>), AllocError>
-        requires lawful { IsLawful bytes.now state.old }
-        requires short { length bytes.now ≤ most_bytes }
-        requires rows { HasRows bytes.now tape.now }
-        requires few { length tape.now ≤ 2 ^ 61 }
-        ensures made { IfOk result (λ r. IsWritten self.now.writing (run_on (options_seen bytes.now state.old.options) (state_seen bytes.now state.old) (reading_of bytes.now tape.now fault)) r.0) }
-        ensures ends { IfOk result (λ r. MatchOption r.1
-            ((after_reading (options_seen bytes.now state.old.options) (state_seen bytes.now state.old) (reading_of bytes.now tape.now fault) ≡ Ok (state_seen bytes.now state.new)) × IsLawful bytes.now state.new × (state.new.options ≡ state.old.options))
-            (λ f. after_reading (options_seen bytes.now state.old.options) (state_seen bytes.now state.old) (reading_of bytes.now tape.now fault) ≡ Err f)) }
-    {
+    ) -> Result<(Written, Option<Fault>), AllocError> {
         let decoding = &mut tools.decoding;
         mem::swap(state, &mut decoding.state);
         decoding.writing = self.writing;

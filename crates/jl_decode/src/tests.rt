@@ -1,5 +1,6 @@
 use crate::{Ended, Tally, count_items, write_lines};
 use jl_base::{Fault, Kind, Place, Shelf, Space};
+use jl_drive::Gate;
 use jl_io::MemShelf;
 use jl_lines::Refused;
 use std::test::Fail;
@@ -18,6 +19,13 @@ const BLANK: &[u8] = b"\x23\x0A\x0C\x0A\x0A\x10\x01\x48\x08\x50\x08\x58\x08\x78\
     \x0A\x05\x4A\x03\x12\x01a\x0A\x0C\x12\x0A\x0A\0\x2A\x02\x10\x01\x4A\x02\x10\x01\
     \x07\x0A\x05\x12\x03\x32\x01b";
 
+// Nobody watches.
+struct Unseen;
+
+impl Gate for Unseen {
+    fn enter(&self, _worker: u32, _run: u64) {}
+}
+
 // How the writing of a file's lines ended, and what was written.
 #[test]
 fn lines_of_a_file(rt: HostRuntime) -> Result<(), Fail> {
@@ -35,7 +43,7 @@ fn lines_of_a_file(rt: HostRuntime) -> Result<(), Fail> {
     for (file, room, whole, lines) in files {
         let space = Space::from_bytes(alloc, file)?;
         let mut shelf = MemShelf::new(alloc, 100, room, 1, &[])?;
-        match write_lines(alloc, &space, 16, false, &mut shelf) {
+        match write_lines(&rt, alloc, &space, 1, 3, false, &mut shelf, &Unseen) {
             Ended::Whole => assert!(rt; whole),
             Ended::Malformed(found) => assert_eq!(rt; found, fault),
             Ended::WriteFault => assert_eq!(rt; room, 5),
@@ -59,13 +67,13 @@ fn items_of_a_file(rt: HostRuntime) -> Result<(), Fail> {
             statements,
             namespaces: 0,
         };
-        match count_items(alloc, &space, 1, false) {
+        match count_items(&rt, alloc, &space, 1, 1, false, &Unseen) {
             Ok(found) => assert_eq!(rt; found, tally),
             Err(_) => assert!(rt; false),
         }
     }
     let space = Space::from_bytes(alloc, FAULTY)?;
-    match count_items(alloc, &space, 1, false) {
+    match count_items(&rt, alloc, &space, 1, 1, false, &Unseen) {
         Err(Refused::Malformed(found)) => assert_eq!(rt; found.kind, Kind::NoEntry),
         _ => assert!(rt; false),
     }
@@ -87,7 +95,7 @@ fn lines_under_the_strict_profile(rt: HostRuntime) -> Result<(), Fail> {
     ];
     for (strict, lines) in modes {
         let mut shelf = MemShelf::new(alloc, 100, 100, 1, &[])?;
-        match write_lines(alloc, &space, 1, strict, &mut shelf) {
+        match write_lines(&rt, alloc, &space, 1, 1, strict, &mut shelf, &Unseen) {
             Ended::Whole => assert_eq!(rt; strict, false),
             Ended::Malformed(found) => assert_eq!(rt; found, fault),
             _ => assert!(rt; false),

@@ -4,6 +4,7 @@ use std::sync::atomic::AtomicU64;
 use std::sync::atomic::Ordering::SeqCst;
 
 // Holds run 0 until so many runs were entered, or for many turns.
+#[derive(Drop)]
 struct Hold {
     wanted: u64,
     entered: AtomicU64,

@@ -5,5 +5,5 @@ use Rattle.jl_decode.proofs.Endings.{tallied}
 use Rattle.jl_decode.proofs.count.count_items.Goals as goal
 
 pub returns-in-Ok : goal.returns-in-Ok
-returns-in-Ok c =
+returns-in-Ok g c =
     tallied (λ item. []) (decode c.args.strict c.args.space.now) (record { held = None; faults = 0 }) (record { held = None; faults = 0 }) c.in-Ok.tally (length (frames c.args.space.now).items) c.in-Ok.ensures.delivers c.in-Ok.ensures.frames

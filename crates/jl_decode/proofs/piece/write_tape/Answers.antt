@@ -1,7 +1,6 @@
-use Rattle.std.proofs.Common.{Some, sym, ◌∙◌}
+use Rattle.std.proofs.Common.{sym}
 use Rattle.jl_rows.specs.Seen.{options_seen}
 use Rattle.jl_state.specs.Lawful.{state_seen}
-use Rattle.jl_state.specs.declared.state.State.{State}
 use Rattle.jl_tape.specs.Runs.{no_rows}
 use Rattle.jl_tape.specs.Tapes.{reading_of}
 use Rattle.jl_decode.proofs.PieceLemmas.{halted_counts, halted_fault, halted_lines, whole_counts, whole_lines}

@@ -1,0 +1,3 @@
+pub mod Tapes
+pub mod Waves
+pub mod Benches

@@ -4,7 +4,7 @@
 //! that call with 5, and in both cases it has written nothing.
 #![tactic(auto)]
 
-ghost use Rattle.std.specs.Prelude.{◌≡◌, length, map, drop, vec_len, string_bytes, IfOk};
+ghost use Rattle.std.specs.Prelude.{◌≡◌, false, length, map, drop, vec_len, string_bytes, IfOk};
 ghost use Rattle.std.specs.IoError.{error_kind};
 ghost use Rattle.jellyp.specs.declared.Refusal.TheVariants.{NoMemory};
 ghost use Rattle.jellyp.specs.Refusals.{IsRefusedFor, status_of};

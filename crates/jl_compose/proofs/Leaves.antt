@@ -203,7 +203,7 @@ module _ (o : StreamOptions) (bytes : List ℕ) (ms ns ks : List Summary) where
   pub joined_lawful : ks ≡ ms ++ ns → AreLawful o bytes ms → AreLawful o bytes ns → AreLawful o bytes ks
   joined_lawful e h k = subst (AreLawful o bytes) (sym e) (both_lawful o bytes ms ns h k)
 
-  pub joined_bounded : ks ≡ ms ++ ns → (all_writes ms + all_writes ns ≤ 16 * all_slots o) × (all_demands ms + all_demands ns ≤ 4 * all_slots o + 8) → IsBounded o ks
+  pub joined_bounded : ks ≡ ms ++ ns → (all_writes ms + all_writes ns ≤ 1024 * all_slots o) × (all_demands ms + all_demands ns ≤ 256 * all_slots o + 8) → IsBounded o ks
   joined_bounded e h =
       let writes = ap all_writes e ∙ both_writes ms ns in
       let demands = ap all_demands e ∙ both_demands ms ns in

@@ -43,10 +43,11 @@ abbrev pub all_demands : List Summary → ℕ
 all_demands [] = 0
 all_demands (m ∷ ms) = length m.demands.items + all_demands ms
 
--- A block's bound, whatever rows it speaks of: 16 writes for each slot of the tables, and 4 demands for each and 8 more.
+-- A block's bound, whatever rows it speaks of: 1024 writes for each slot of the tables, and 256 demands for
+-- each and 8 more.
 pub record IsBounded (o : StreamOptions) (ms : List Summary) : Type 0 where
-  pub writes : all_writes ms ≤ 16 * all_slots o
-  pub demands : all_demands ms ≤ 4 * all_slots o + 8
+  pub writes : all_writes ms ≤ 1024 * all_slots o
+  pub demands : all_demands ms ≤ 256 * all_slots o + 8
 
 -- Two lists of leaves in turn act as both in one,
 abbrev pub LeavesInTurn : Type 0

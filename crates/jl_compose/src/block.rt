@@ -80,7 +80,7 @@ impl Block {
     }
 
     /// Two blocks, one after the other. It shares their leaves, and takes memory for their places alone, as long as both
-    /// together hold at most 16 writes for each slot of the tables, and 4 demands for each and 8 more. Where they hold
+    /// together hold at most 1024 writes for each slot of the tables, and 256 demands for each and 8 more. Where they hold
     /// more, it makes one summary of all.
     pub fn both(
         alloc: Global,

@@ -34,10 +34,10 @@ pub(crate) fn size_of(leaves: &[Shared<Summary>]) -> Size
 
 /// Whether a block may hold so much.
 pub(crate) fn is_bounded(options: &Options, size: Size) -> bool
-    ensures { let slots = options.now.names + options.now.prefixes + options.now.datatypes in IsTrue result ↔ ((size.writes ≤ 16 * slots) × (size.demands ≤ 4 * slots + 8)) }
+    ensures { let slots = options.now.names + options.now.prefixes + options.now.datatypes in IsTrue result ↔ ((size.writes ≤ 1024 * slots) × (size.demands ≤ 256 * slots + 8)) }
 {
     let slots = u64::from(options.names)
         + u64::from(options.prefixes)
         + u64::from(options.datatypes);
-    size.writes <= 16 * slots && size.demands <= 4 * slots + 8
+    size.writes <= 1024 * slots && size.demands <= 256 * slots + 8
 }

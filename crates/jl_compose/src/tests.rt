@@ -49,9 +49,9 @@ fn summary_of(
     requires passed { ArePassed rows.now options.now }
     requires start { at ≤ end }
     requires inside { end ≤ length rows.now }
-    requires short { length rows.now < 1000 }
+    requires short { length rows.now < 10000 }
     ensures lawful { IfOk result (IsLawful (options_seen rows.now options.now) rows.now) }
-    ensures few { IfOk result (λ m. m.rows < 1000) }
+    ensures few { IfOk result (λ m. m.rows < 10000) }
 {
     let mut tape = Tape::new(alloc);
     let fault = read_frame(&mut tape, rows, frame, at, end)?;
@@ -71,10 +71,10 @@ fn block_of(
     requires passed { ArePassed rows.now options.now }
     requires start { at ≤ end }
     requires inside { end ≤ length rows.now }
-    requires short { length rows.now < 1000 }
+    requires short { length rows.now < 10000 }
     ensures lawful { IfOk result (λ b. AreLawful (options_seen rows.now options.now) rows.now b.leaves.items) }
     ensures bounded { IfOk result (λ b. IsBounded (options_seen rows.now options.now) b.leaves.items) }
-    ensures few { IfOk result (λ b. all_rows b.leaves.items < 1000) }
+    ensures few { IfOk result (λ b. all_rows b.leaves.items < 10000) }
 {
     let summary = summary_of(alloc, rows, options, frame, at, end)?;
     Block::of(alloc, rows, options, summary)
@@ -91,7 +91,7 @@ fn both_of(
     requires passed { ArePassed rows.now options.now }
     requires start { start ≤ middle }
     requires inside { middle ≤ length rows.now }
-    requires short { length rows.now < 1000 }
+    requires short { length rows.now < 10000 }
     ensures { IfOk result (λ b. AreLawful (options_seen rows.now options.now) rows.now b.leaves.items) }
 {
     let first = block_of(alloc, rows, options, 2, start, middle)?;
@@ -110,7 +110,7 @@ fn flat_of(
     requires passed { ArePassed rows.now options.now }
     requires start { start ≤ middle }
     requires inside { middle ≤ length rows.now }
-    requires short { length rows.now < 1000 }
+    requires short { length rows.now < 10000 }
     ensures { IfOk result (λ b. AreLawful (options_seen rows.now options.now) rows.now b.leaves.items) }
 {
     let first = summary_of(alloc, rows, options, 2, start, middle)?;
@@ -129,7 +129,7 @@ fn outcome(
 ) -> Result<Outcome, AllocError>
     requires passed { ArePassed rows.now options.now }
     requires inside { start ≤ length rows.now }
-    requires short { length rows.now < 1000 }
+    requires short { length rows.now < 10000 }
     requires lawful { AreLawful (options_seen rows.now options.now) rows.now block.now.leaves.items }
     ensures { IfOk result (HasAfter rows.now options.now) }
 {
@@ -233,7 +233,7 @@ fn both_do_what_each_does(rt: HostRuntime) -> Result<(), Fail> {
     ];
     let options = options(4);
     for (rows, start, middle, names, subject, fault) in cases {
-        assert!(rt; start <= middle && middle <= rows.len() && rows.len() < 1000);
+        assert!(rt; start <= middle && middle <= rows.len() && rows.len() < 10000);
         let wanted = (names, subject, fault);
         let both = both_of(alloc, rows, &options, start, middle)?;
         assert_eq!(rt; both.leaves.len(), 2);
@@ -247,22 +247,24 @@ fn both_do_what_each_does(rt: HostRuntime) -> Result<(), Fail> {
     Ok(())
 }
 
-// Seventeen names of id 1.
-const LARGE: &[u8] = b"\
-    \x0A\x07\x4A\x05\x08\x01\x12\x01a\x0A\x07\x4A\x05\x08\x01\x12\x01a\x0A\x07\x4A\x05\x08\x01\x12\x01a\
-    \x0A\x07\x4A\x05\x08\x01\x12\x01a\x0A\x07\x4A\x05\x08\x01\x12\x01a\x0A\x07\x4A\x05\x08\x01\x12\x01a\
-    \x0A\x07\x4A\x05\x08\x01\x12\x01a\x0A\x07\x4A\x05\x08\x01\x12\x01a\x0A\x07\x4A\x05\x08\x01\x12\x01a\
-    \x0A\x07\x4A\x05\x08\x01\x12\x01a\x0A\x07\x4A\x05\x08\x01\x12\x01a\x0A\x07\x4A\x05\x08\x01\x12\x01a\
-    \x0A\x07\x4A\x05\x08\x01\x12\x01a\x0A\x07\x4A\x05\x08\x01\x12\x01a\x0A\x07\x4A\x05\x08\x01\x12\x01a\
-    \x0A\x07\x4A\x05\x08\x01\x12\x01a\x0A\x07\x4A\x05\x08\x01\x12\x01z";
+// So many names of id 1, of which the last is another one.
+fn names_of_one_slot(alloc: Global, count: usize) -> Result<Vec<u8>, AllocError> {
+    let mut rows = Vec::new(alloc);
+    for _ in 1..count {
+        rows.extend_from_slice(b"\x0A\x07\x4A\x05\x08\x01\x12\x01a")?;
+    }
+    rows.extend_from_slice(b"\x0A\x07\x4A\x05\x08\x01\x12\x01z")?;
+    Ok(rows)
+}
 
 #[test]
 fn a_block_that_is_too_large_is_one_summary(rt: HostRuntime) -> Result<(), Fail> {
     let alloc = rt.alloc();
     let options = options(1);
-    let cases: [(&[u8], usize, usize); 2] = [(LARGE, 9, 2), (LARGE, 0, 1)];
-    for (rows, start, leaves) in cases {
-        assert!(rt; start <= 27 && 27 <= rows.len() && rows.len() < 1000);
+    let made = names_of_one_slot(alloc, 1025)?;
+    let rows = made.as_slice();
+    for (start, leaves) in [(9, 2), (0, 1)] {
+        assert!(rt; start <= 27 && 27 <= rows.len() && rows.len() < 10000);
         let both = both_of(alloc, rows, &options, start, 27)?;
         assert_eq!(rt; both.leaves.len(), leaves);
         let after = outcome(alloc, rows, &options, 0, &both)?;

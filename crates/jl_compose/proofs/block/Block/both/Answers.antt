@@ -31,7 +31,7 @@ returns-then-is_bounded-clause-bounded c =
     let fits = c.if-is_bounded.ensures.0 refl in
     IfOk-weaker c.joined.result _ _
     (λ b e. joined_bounded o bytes c.args.first.now.leaves.items c.args.second.now.leaves.items b.leaves.items (e ∙ λ i. c.deref-then-is_bounded.ensures.value i ++ c.deref-then-is_bounded-2.ensures.value i)
-    (subst (λ n. n ≤ 16 * all_slots o) writes fits.0, subst (λ n. n ≤ 4 * all_slots o + 8) demands fits.1)) c.joined.ensures
+    (subst (λ n. n ≤ 1024 * all_slots o) writes fits.0, subst (λ n. n ≤ 256 * all_slots o + 8) demands fits.1)) c.joined.ensures
 
 pub returns-then-is_bounded-clause-rows : goal.returns-then-is_bounded-clause-rows
 returns-then-is_bounded-clause-rows c =

@@ -20,6 +20,3 @@ mod wave;
 pub use bench::Kept;
 pub use driving::{Waved, drive_wave};
 pub use making::Making;
-
-#[cfg(test)]
-mod tests;

@@ -268,3 +268,13 @@ def run(program, commands, tally, seed, count):
             is_cut = damage in (cut, drop) and making.file_bytes(frames).startswith(damaged)
             check(program, commands, tally, what, frames, damaged, first, is_cut)
             check_strictly(program, commands, tally, what, damaged)
+
+
+def whole_and_damaged(seed, what, count):
+    """So many whole files and a damaged one after each, from a seed and a word for what they are for; each with its name."""
+    for number in range(count):
+        made = random.Random("%s, %s %d" % (seed, what, number))
+        frames = making.make(made, 1 + number % 3)
+        yield "file %d of seed %s" % (number, seed), making.file_bytes(frames)
+        change = made.choice(DAMAGES)
+        yield "damaged file %d of seed %s (%s)" % (number, seed, change.__name__), change(made, frames)[0]

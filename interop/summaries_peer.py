@@ -4,24 +4,12 @@ crates/try_summaries goes over each file row by row, and by summaries of runs of
 two groupings, compacts, and puts into blocks. All have to lead to the same state or the same fault.
 """
 import os
-import random
 import subprocess
 
 import damage
-import making
 
 # Files a call of the program.
 GROUP = 100
-
-
-def files(seed, count):
-    """Whole files and damaged ones, with what they are called."""
-    for number in range(count):
-        made = random.Random("%s, summaries %d" % (seed, number))
-        frames = making.make(made, 1 + number % 3)
-        yield "file %d of seed %s" % (number, seed), making.file_bytes(frames)
-        change = made.choice(damage.DAMAGES)
-        yield "damaged file %d of seed %s (%s)" % (number, seed, change.__name__), change(made, frames)[0]
 
 
 def wrong(binary, names):
@@ -52,7 +40,7 @@ def run(binary, tally, seed, count, folder):
     print("%d files and as many damaged ones, from seed %s, by their summaries" % (count, seed))
     group = []
     with damage.quiet():
-        for made in files(seed, count):
+        for made in damage.whole_and_damaged(seed, "summaries", count):
             group.append(made)
             if len(group) == GROUP:
                 check(binary, tally, group, folder)

@@ -14,16 +14,6 @@ WORKERS = range(1, 9)
 RUNS = (1, 2, 3, 16)
 
 
-def files(seed, count):
-    """Whole files and damaged ones, with what they are called."""
-    for number in range(count):
-        made = random.Random("%s, workers %d" % (seed, number))
-        frames = making.make(made, 1 + number % 3)
-        yield "file %d of seed %s" % (number, seed), making.file_bytes(frames)
-        change = made.choice(damage.DAMAGES)
-        yield "damaged file %d of seed %s (%s)" % (number, seed, change.__name__), change(made, frames)[0]
-
-
 def options_of(workers, run):
     return "--workers=%d" % workers, "--run=%d" % run
 
@@ -59,6 +49,6 @@ def run(program, commands, tally, seed, count, times):
     commands = [command for command in commands if command != "inspect"]
     print("%d files and as many damaged ones, from seed %s, by 1 to 8 workers; one file %d times" % (count, seed, times))
     with damage.quiet():
-        for what, data in files(seed, count):
+        for what, data in damage.whole_and_damaged(seed, "workers", count):
             check(program, commands, tally, what, data)
     again(program, tally, seed, times)

@@ -9,6 +9,7 @@
 mod failed;
 mod kind;
 mod place;
+mod room;
 mod seq;
 mod sink;
 mod source;

@@ -61,3 +61,13 @@ fn a_space_has_its_bytes(rt: HostRuntime) -> Result<(), Fail> {
     assert_eq!(rt; space.text(Span { at: 1, len: 3 }), b"ell".as_slice());
     Ok(())
 }
+
+#[test]
+fn a_space_is_cut_and_goes_on(rt: HostRuntime) -> Result<(), Fail> {
+    let mut space = Space::from_bytes(rt.alloc(), b"hello")?;
+    space.cut(2);
+    space.append(b"y, you")?;
+    assert_eq!(rt; space.len(), 8);
+    assert_eq!(rt; space.bytes(), b"hey, you".as_slice());
+    Ok(())
+}

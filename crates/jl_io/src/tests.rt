@@ -19,7 +19,7 @@ fn a_space_is_filled_in_pieces(rt: HostRuntime) -> Result<(), Fail> {
     let alloc = rt.alloc();
     let rows: [(&[u64], u64, Result<(), FillFault>, &[u8]); 4] = [
         (&[], 5, Ok(()), b"+hello"),
-        (&[], 4, Err(FillFault::TooLong), b"+hell"),
+        (&[], 4, Err(FillFault::TooLong), b"+hello"),
         (&[2], 5, Err(FillFault::ReadFault), b"+he"),
         (&[5], 5, Ok(()), b"+hello"),
     ];

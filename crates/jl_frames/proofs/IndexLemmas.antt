@@ -19,7 +19,7 @@ pub record Indexed (file : List ℕ) (bodies : List Span) (at : ℕ) : Type 0 wh
 abbrev pub body_at : ℕ → ℕ → Span
 body_at start end = record { at = start; len = end - start }
 
-map-snoc : {A B : Type 0} (f : A → B) (xs : List A) (x : A) → map f (xs ++ x ∷ []) ≡ map f xs ++ f x ∷ []
+pub map-snoc : {A B : Type 0} (f : A → B) (xs : List A) (x : A) → map f (xs ++ x ∷ []) ≡ map f xs ++ f x ∷ []
 map-snoc f [] x = refl
 map-snoc f (y ∷ xs) x = ap (λ ys. f y ∷ ys) (map-snoc f xs x)
 

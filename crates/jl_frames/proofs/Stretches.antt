@@ -1,5 +1,5 @@
 -- The frames of an index from one to another: where their bodies lie, and their rows.
-use Rattle.std.proofs.Common.{◌≡◌, ℕ, zero, suc, ◌+◌, ◌*◌, ◌-◌, ◌<◌, ◌≤◌, List, [], ◌∷◌, ◌++◌, length, map, take, drop, slice_get, slice_range, Option, Some, None, refl, ap, sym, ◌∙◌, subst, arith}
+use Rattle.std.proofs.Common.{◌≡◌, ℕ, zero, suc, ◌+◌, ◌-◌, ◌<◌, ◌≤◌, List, [], ◌∷◌, ◌++◌, length, map, take, drop, slice_get, slice_range, Option, Some, refl, ap, sym, ◌∙◌, subst, arith}
 use Rattle.std.proofs.lemmas.List.{length-map, map-append, take-append-drop, take_all}
 use Rattle.jl_base.specs.Results.{Reading, joined}
 use Rattle.jl_base.specs.Spans.{text_of}
@@ -8,7 +8,7 @@ use Rattle.jl_base.specs.declared.place.Fault.{Fault}
 use Rattle.jl_base.specs.declared.place.Span.{Span}
 use Rattle.jl_wire.proofs.Ranges.{length-range, drop-range, take-range}
 use Rattle.jl_rows.specs.Files.{Placed, all_rows, ends_at, frame_rows, frames, rows_from, rows_then}
-use Rattle.jl_frames.specs.Index.{Index, AreLaid, IsIndex, behind, end_of, last_end}
+use Rattle.jl_frames.specs.Index.{Index, AreLaid, IsIndex, end_of, last_end}
 use Rattle.jl_frames.specs.Stretches.{between}
 use Rattle.jl_frames.proofs.IndexLemmas.{ends_within, laid_frames}
 
@@ -18,7 +18,7 @@ pub record IsBodyOf (at : ℕ) (bodies : List Span) (last k : ℕ) (body : Span)
   pub next : last_end at (take (k + 1) bodies) ≡ end_of body
   pub within : end_of body ≤ last
 
-laid_above : (at : ℕ) (bodies : List Span) (last : ℕ) → AreLaid at bodies last → at ≤ last
+pub laid_above : (at : ℕ) (bodies : List Span) (last : ℕ) → AreLaid at bodies last → at ≤ last
 laid_above at [] last same = omega (arith, same)
 laid_above at (b ∷ bodies) last both = omega (arith, both.0, laid_above (end_of b) bodies last both.1)
 

@@ -1,5 +1,5 @@
 -- The index of some frames: where their bodies lie (Jelly RDF serialization, "Delimited variant of Jelly").
-use Rattle.std.specs.Prelude.{◌≡◌, ℕ, ◌+◌, ◌^◌, ◌<◌, ◌≤◌, List, [], ◌∷◌, length, map, take, slice_get, slice_range, Option, Some}
+use Rattle.std.specs.Prelude.{◌≡◌, ℕ, ◌+◌, ◌-◌, ◌^◌, ◌<◌, ◌≤◌, List, [], ◌∷◌, length, map, take, slice_get, slice_range, Option, Some}
 use Rattle.jl_base.specs.Results.{with_front}
 use Rattle.jl_base.specs.Spans.{text_of}
 use Rattle.jl_base.specs.declared.place.Span.{Span}
@@ -46,6 +46,10 @@ AreLaid at (body ∷ bodies) end = (at < body.at) × AreLaid (end_of body) bodie
 abbrev pub last_end : ℕ → List Span → ℕ
 last_end at [] = at
 last_end at (body ∷ bodies) = last_end (end_of body) bodies
+
+-- how many bytes the frames have, with their lengths
+abbrev pub bytes_of : Index → ℕ
+bytes_of index = last_end index.lo index.bodies - index.lo
 
 -- the place after the first n frames
 abbrev pub behind : Index → ℕ → ℕ

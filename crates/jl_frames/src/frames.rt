@@ -1,8 +1,11 @@
 //! The index of a file's frames.
 ghost use Rattle.std.specs.Prelude.{◌≡◌, ◌+◌, ◌<◌, ◌≤◌, ◌^◌, IfOk, length, slice_get};
-ghost use Rattle.jl_frames.specs.Index.{IsIndex, AreFit, end_of};
+ghost use Rattle.jl_rows.specs.Files.{ends_at};
+ghost use Rattle.jl_frames.specs.Index.{IsIndex, AreFit, AreLaid, bytes_of, end_of};
+ghost use Rattle.jl_frames.specs.Windows.{kept_if};
 
-use jl_base::{Fault, Place, Space, Span};
+use crate::walk::Walked;
+use jl_base::{Fault, Kind, Place, Space, Span};
 use jl_rows::next_frame;
 use std::alloc::{AllocError, Global};
 use std::marker::Model;
@@ -56,6 +59,26 @@ impl Frames {
         }
     }
 
+    // The frames of a window, of which only the last has the fault of what stands after its frames.
+    pub(crate) fn of_window(walked: Walked, lo: u64, first: u64, last: bool) -> Frames
+        requires laid { AreLaid lo walked.bodies.items walked.end }
+        requires few { first ≤ 2 ^ 62 + 1 }
+        requires fits { walked.end < 2 ^ 64 }
+        ensures bodies { result.bodies ≡ walked.bodies.items }
+        ensures tail { result.tail ≡ ends_at (first + length walked.bodies.items) 0 (kept_if last walked.fault) }
+        ensures lo { result.lo ≡ lo }
+        ensures first { result.first ≡ first }
+    {
+        let frame = first + walked.bodies.len() as u64;
+        let tail = tail_of(frame, walked.fault, last);
+        Frames {
+            bodies: walked.bodies,
+            tail,
+            lo,
+            first,
+        }
+    }
+
     // The place of the first frame's length.
     pub(crate) fn lo(&self) -> u64
         ensures { result ≡ self.now.lo }
@@ -80,12 +103,37 @@ impl Frames {
         body.at + u64::from(body.len)
     }
 
-    /// The fault behind the last frame, in place of a further one. Its row is 0.
+    /// How many bytes the frames have, with their lengths.
+    pub fn bytes(&self) -> u64
+        ensures exact { result ≡ bytes_of self.now }
+    {
+        let count = self.count();
+        if count == 0 {
+            return 0;
+        }
+        self.end(count - 1).saturating_sub(self.lo)
+    }
+
+    /// The fault after the last frame, in place of a further one. Its row is 0.
     pub fn tail(&self) -> Option<Fault>
         ensures { result ≡ self.now.tail }
     {
         self.tail
     }
+}
+
+// The fault in place of the frame of a number, which only the last window has.
+fn tail_of(frame: u64, fault: Option<Kind>, last: bool) -> Option<Fault>
+    ensures { result ≡ ends_at frame 0 (kept_if last fault) }
+{
+    if !last {
+        return None;
+    }
+    let kind = fault?;
+    Some(Fault {
+        place: Place { frame, row: 0 },
+        kind,
+    })
 }
 
 /// The index of a file. Takes memory for the frames' places.

@@ -4,9 +4,13 @@
 //! frames in order, each once. It stands on jl_rows.
 #![tactic(auto)]
 
+mod feed;
 mod frames;
+pub mod laws;
 mod plan;
+mod walk;
 
+pub use feed::{Feed, Window};
 pub use frames::{Frames, index};
 pub use plan::Plan;
 

@@ -60,6 +60,20 @@ impl Feed {
         }
     }
 
+    /// Whether the last window was given, or one was refused: then there is no next one.
+    pub fn is_ended(&self) -> bool
+        ensures { result ≡ self.now.ended }
+    {
+        self.ended
+    }
+
+    /// How many frames the windows so far had.
+    pub fn given(&self) -> u64
+        ensures { result ≡ self.now.given }
+    {
+        self.given
+    }
+
     /// The next window: its frames stand after the bytes of the space, and are numbered on from those of the windows
     /// before it. `left` is how many bytes may still be read; TooLong is that one more was. After a refusal the space
     /// is unchanged and the feed is ended, as it is after the last window. Takes memory for the window's bytes, its

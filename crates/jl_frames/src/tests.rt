@@ -1,3 +1,6 @@
+mod pieces;
+mod windows;
+
 use crate::{Frames, Plan, index};
 use jl_base::{Fault, Kind, Place, Run, Space, Span};
 use std::alloc::{AllocError, Global};

@@ -8,4 +8,5 @@ pub mod History
 pub mod Values
 pub mod Decoder
 pub mod Heads
+pub mod Carries
 pub mod Usual

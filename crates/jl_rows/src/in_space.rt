@@ -1,12 +1,14 @@
 //! The readers over the bytes of an input.
-ghost use Rattle.std.specs.Prelude.{◌≡◌, ◌+◌, ◌≤◌, false, slice_range, IfOk, IfSome};
+ghost use Rattle.std.specs.Prelude.{◌≡◌, ◌+◌, ◌≤◌, ◌^◌, None, false, length, slice_range, IfOk, IfSome};
+ghost use Rattle.jl_base.specs.Results.{Reading};
 ghost use Rattle.jl_base.specs.Spans.{IsInside, text_of};
+ghost use Rattle.jl_base.specs.declared.place.Fault as faults;
 ghost use Rattle.jl_rows.specs.Decoder as spec;
-ghost use Rattle.jl_rows.specs.Files.{row_end};
-ghost use Rattle.jl_rows.specs.Heads.{HasHead, head_seen};
+ghost use Rattle.jl_rows.specs.Files.{Placed, frames, row_end, rows_then};
+ghost use Rattle.jl_rows.specs.Heads.{BeginsWith, HasHead, head_seen};
 ghost use Rattle.jl_rows.specs.Seen.{HasTriple, IsNextRow, IsRowWithin, nested_at, nested_seen};
 
-use crate::first_row::{Head, head_at};
+use crate::first_row::{Head, file_head, head_in};
 use crate::frame_rows::next_row_at;
 use crate::row::{RawTriple, Row};
 use crate::triple_terms::triple_term_at;
@@ -45,5 +47,19 @@ pub fn head(space: &Space) -> Head
     ensures exact { head_seen space.now result ≡ spec.head false space.now }
     ensures passed { HasHead space.now result }
 {
-    head_at(space.bytes())
+    file_head(space.bytes())
+}
+
+/// What the whole frames from `at` to `end` begin with, the first of which has the number `first_frame`, whatever
+/// follows them. Empty says that they have no rows. It is found without reading further than the first row, and takes
+/// no memory.
+pub fn head_at(space: &Space, at: u64, end: u64, first_frame: u64) -> Head
+    requires start { at ≤ end }
+    requires inside { end ≤ length space.now }
+    requires whole { (frames (slice_range space.now at end)).fault ≡ None }
+    requires numbers { first_frame ≤ 2 ^ 62 + 1 }
+    ensures exact { (B : Reading Placed faults.Fault) → BeginsWith space.now (rows_then first_frame (frames (slice_range space.now at end)).items B) B result }
+    ensures passed { HasHead space.now result }
+{
+    head_in(space.bytes(), at as usize, end as usize, first_frame)
 }

@@ -5,6 +5,7 @@
 //! whole format: of messages, rows, histories and the decoder. It stands on jl_wire and jl_base.
 #![tactic(auto)]
 
+mod carry;
 mod first_row;
 mod frame;
 mod frame_rows;
@@ -25,10 +26,10 @@ mod usual_terms;
 #[cfg(test)]
 mod usual_tests;
 
-pub use first_row::{Head, head_at, head_in};
+pub use first_row::{Head, head_in};
 pub use frame::next_frame;
 pub use frame_rows::{next_row_at, next_row_into};
-pub use in_space::{head, next_row, triple_term};
+pub use in_space::{head, head_at, next_row, triple_term};
 pub use message::{Known, Message, Shape};
 pub use options::{GRAPHS, Options, Physical, QUADS, TRIPLES};
 pub use row::{RawIri, RawQuad, RawTail, RawTerm, RawTriple, Row, Table};

@@ -2,8 +2,9 @@ ghost use Rattle.std.specs.Prelude.{◌≤◌};
 ghost use Rattle.jl_base.specs.Spans.{IsInside};
 ghost use Rattle.jl_rows.specs.Seen.{HasRow};
 
+use crate::first_row::file_head;
 use crate::{
-    Head, Options, Physical, RawTerm, Row, Table, head, head_at, next_row, next_row_at, triple_term,
+    Head, Options, Physical, RawTerm, Row, Table, head, next_row, next_row_at, triple_term,
 };
 use jl_base::{Kind, Place, Space, Span};
 use std::process::Abort;
@@ -11,7 +12,7 @@ use std::test::Fail;
 
 // The frame and the row of a file's head, and its fault.
 fn outcome(file: &[u8], strict: bool) -> (u64, u32, Option<Kind>) {
-    match head_at(file).under(strict) {
+    match file_head(file).under(strict) {
         Head::Empty => (0, 0, None),
         Head::First(_, place) => (place.frame, place.row, None),
         Head::Bad(fault) => (fault.place.frame, fault.place.row, Some(fault.kind)),
@@ -239,5 +240,20 @@ fn rows_of_a_space(rt: HostRuntime) -> Result<(), Fail> {
     }
     assert_eq!(rt; at, 73);
     assert!(rt; matches!(next_row(&space, frame, at), Ok(None)));
+    Ok(())
+}
+
+#[test]
+fn a_stream_name_is_carried(rt: HostRuntime) -> Result<(), Fail> {
+    let alloc = rt.alloc();
+    let file = b"\x12\x0A\x10\x0A\x0E\x0A\x02ab\x10\x01\x48\x08\x50\x08\x58\x08\x78\x01";
+    let space = Space::from_bytes(alloc, file)?;
+    let Head::First(options, _) = head(&space) else {
+        return Ok(assert!(rt; false));
+    };
+    let mut into = Space::from_bytes(alloc, b"xyz")?;
+    let carried = options.carry(&space, &mut into)?;
+    assert_eq!(rt; into.bytes(), b"xyzab".as_slice());
+    assert_eq!(rt; carried.stream_name, Span { at: 3, len: 2 });
     Ok(())
 }

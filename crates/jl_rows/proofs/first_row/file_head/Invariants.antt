@@ -1,6 +1,6 @@
 use Rattle.std.proofs.Common.{◌≡◌, ◌+◌, ◌-◌, ◌≤◌, slice_range}
 use Rattle.jl_rows.specs.Files.{frames, rows_on}
-use Rattle.jl_rows.proofs.first_row.head_at.Given as goal
+use Rattle.jl_rows.proofs.first_row.file_head.Given as goal
 
 -- the rows of the file are those of what is left; each frame behind took a byte
 abbrev pub invariant-frames : goal.invariant-frames

@@ -3,7 +3,7 @@ use Rattle.std.proofs.Common.{◌∙◌, ap, sym, arith, length}
 use Rattle.jl_rows.specs.Heads.{head_seen}
 use Rattle.jl_rows.specs.Seen.{row_seen}
 use Rattle.jl_rows.proofs.HeadLaws.{nothing_left, no_frame, first_row, no_row, frame_without_rows}
-use Rattle.jl_rows.proofs.first_row.head_at.Goals as goal
+use Rattle.jl_rows.proofs.first_row.file_head.Goals as goal
 
 pub returns-in-Ok-None-clause-exact : goal.returns-in-Ok-None-clause-exact
 returns-in-Ok-None-clause-exact c =

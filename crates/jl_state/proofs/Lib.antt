@@ -9,3 +9,4 @@ pub mod Following
 pub mod StepLaw
 pub mod RunLaw
 pub mod Guards
+pub mod Carrying

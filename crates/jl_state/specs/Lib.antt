@@ -8,3 +8,4 @@ pub mod Seen
 pub mod Positions
 pub mod Answers
 pub mod Lawful
+pub mod Carries

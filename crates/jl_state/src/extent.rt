@@ -1,11 +1,14 @@
 //! Where a text lies, in eight bytes, with what is known of how it is written.
-ghost use Rattle.std.specs.Prelude.{◌≡◌, ◌≢◌, ◌↔◌, ◌≤◌, ℕ, List, IsTrue, length};
+ghost use Rattle.std.specs.Prelude.{◌≡◌, ◌≢◌, ◌↔◌, ◌≤◌, ℕ, List, IfOk, IsTrue, length};
 ghost use Rattle.jl_base.specs.Limits.{most_bytes};
 ghost use Rattle.jl_base.specs.Spans.{text_of, IsInside};
+ghost use Rattle.jl_rows.specs.Carries.{Grows};
+ghost use Rattle.jl_state.specs.Carries.{CarriesSlot, CarriesText};
 ghost use Rattle.jl_state.specs.Extents.{text_in, slot_seen, mark_of, IsFilled, IsMark, IsSound, IsHeld, IsEmpty};
 
-use jl_base::Span;
+use jl_base::{Space, Span};
 use jl_text::{is_clean_iri, is_xsd_string};
+use std::alloc::AllocError;
 
 /// Where a text lies in a file of at most 2^30 bytes. The two bits of `at` above its place say how an IRI of this text
 /// is written: 0 as it is, 1 perhaps with escapes, 2 as it is, and it is xsd:string. A length of 2^32 - 1 is a slot
@@ -116,6 +119,36 @@ impl Extent {
         ensures { IsTrue result ↔ (mark_of self ≡ 2) }
     {
         self.at / MARK == XSD_STRING
+    }
+
+    // The same text after the bytes of another space, with what is known of how it is written. A place is below 2^30:
+    // where there is none left, this is want of memory.
+    pub(crate) fn carried(self, from: &Space, into: &mut Space) -> Result<Extent, AllocError>
+        requires { IsHeld from.now self }
+        ensures carries { IfOk result (CarriesText from.now into.new self) }
+        ensures grows { Grows into.old into.new }
+    {
+        let at = into.bytes().len();
+        if at >= MARK as usize {
+            return Err(AllocError);
+        }
+        into.append(from.text(self.span()))?;
+        Ok(Extent {
+            at: at as u32 + self.at / MARK * MARK,
+            len: self.len,
+        })
+    }
+
+    // The same slot, filled or not.
+    pub(crate) fn carried_slot(self, from: &Space, into: &mut Space) -> Result<Extent, AllocError>
+        requires { IsFilled self → IsSound from.now self }
+        ensures carries { IfOk result (CarriesSlot from.now into.new self) }
+        ensures grows { Grows into.old into.new }
+    {
+        if !self.is_filled() {
+            return Ok(self);
+        }
+        self.carried(from, into)
     }
 
     /// The slot is filled.

@@ -5,6 +5,7 @@
 //! text needs once it is written.
 #![tactic(auto)]
 
+mod carry;
 mod copy;
 mod extent;
 mod known;
@@ -19,6 +20,7 @@ mod tag;
 #[cfg(test)]
 mod tests;
 
+pub use carry::bring_texts;
 pub use extent::Extent;
 pub use known::{Known, KnownTail, KnownThree};
 pub use position::{Position, stands_strictly};

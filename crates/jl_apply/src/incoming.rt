@@ -100,7 +100,7 @@ impl Incoming {
     }
 
     // The slot of a reference is filled; the prefix of id 0 is the empty one.
-    #[inline]
+    #[inline(always)]
     fn is_filled(&self, lookup: &Lookup<'_>, table: Table, id: RelativeId) -> bool
         requires small { IsSmall self.now }
         requires tables { AreTables lookup.now.bytes.now lookup.now.tables.now }
@@ -116,7 +116,7 @@ impl Incoming {
     }
 
     /// Whether a need is met, where the log has been played so far.
-    #[inline]
+    #[inline(always)]
     pub fn meets(&self, lookup: &Lookup<'_>, need: Need) -> bool
         requires small { IsSmall self.now }
         requires tables { AreTables lookup.now.bytes.now lookup.now.tables.now }

@@ -1,5 +1,5 @@
 // One block: found in its cell, or built from its halves.
-ghost use Rattle.std.specs.Prelude.{◌≡◌, ℕ, ◌+◌, ◌*◌, ◌-◌, ◌≤◌, ◌<◌, ◌^◌, true, false, length, IfOk, IsSome, MatchOption};
+ghost use Rattle.std.specs.Prelude.{◌≡◌, ℕ, ◌+◌, ◌*◌, ◌-◌, ◌≤◌, ◌<◌, ◌^◌, true, false, length, IfOk, IsSome, MatchOption, ⊤};
 ghost use Rattle.std.specs.FinMap.{get};
 ghost use Rattle.jl_cells.specs.Knowledge.{Keeps};
 ghost use Rattle.jl_scan.specs.Blocks.{cell_of, edge};
@@ -14,7 +14,11 @@ use crate::{Published, Scan, Scanned};
 use jl_cells::{Cells, Pass};
 use jl_sym::Steps;
 use std::alloc::{AllocError, Global};
+use std::hint::spin_loop;
 use std::sync::ledger::Ledger;
+
+/// How often a run's summary is looked for again before it is made.
+const LOOKS: u32 = 1000;
 
 /// What a block does: its cell's value, or the caller's own, which isn't put yet.
 #[derive(Drop)]
@@ -60,7 +64,7 @@ pub(crate) fn cell<F: Scanned>(scan: &Scan<'_, F>, level: u32, k: u64) -> u64
 }
 
 // What is in the block's cell, where it is of the block's runs.
-pub(crate) fn at_hand<'s, 'a, F: Scanned>(
+pub(crate) fn look_at<'s, 'a, F: Scanned>(
     scan: &'s Scan<'a, F>,
     pass: &mut Pass<Published<F>>,
     level: u32,
@@ -82,6 +86,53 @@ pub(crate) fn at_hand<'s, 'a, F: Scanned>(
     } else {
         None
     }
+}
+
+// A run's summary, by a few more looks. Another caller may be about to give it, and to make it takes longer than these.
+fn look_again<'s, 'a, F: Scanned>(
+    scan: &'s Scan<'a, F>,
+    pass: &mut Pass<Published<F>>,
+    k: u64,
+) -> Option<&'s Published<F>>
+    requires cells { pass.old.cells ≡ scan.now.cells }
+    requires within { edge 0 (k + 1) ≤ scan.now.runs }
+    ensures found { MatchOption result ⊤
+        (λ m. (m.now ≡ (edge 0 k, edge 0 (k + 1))) × IsSome (get pass.new.known (cell_of scan.now.runs 0 k))) }
+    ensures kept { Keeps pass.old pass.new }
+    ensures cells { pass.new.cells ≡ pass.old.cells }
+{
+    for _i in 0..LOOKS {
+        spin_loop();
+        if let Some(found) = look_at(scan, pass, 0, k) {
+            return Some(found);
+        }
+    }
+    None
+}
+
+// What a block does, where it is there. A run's summary is looked for more than once.
+pub(crate) fn at_hand<'s, 'a, F: Scanned>(
+    scan: &'s Scan<'a, F>,
+    pass: &mut Pass<Published<F>>,
+    level: u32,
+    k: u64,
+) -> Option<&'s Published<F>>
+    requires cells { pass.old.cells ≡ scan.now.cells }
+    requires level { level < 33 }
+    requires within { edge level (k + 1) ≤ scan.now.runs }
+    ensures found { MatchOption result
+        (is_at_hand scan.now.runs pass.old.known level k ≡ false)
+        (λ m. (m.now ≡ (edge level k, edge level (k + 1))) × IsSome (get pass.new.known (cell_of scan.now.runs level k))) }
+    ensures kept { Keeps pass.old pass.new }
+    ensures cells { pass.new.cells ≡ pass.old.cells }
+{
+    if let Some(found) = look_at(scan, pass, level, k) {
+        return Some(found);
+    }
+    if level > 0 {
+        return None;
+    }
+    look_again(scan, pass, k)
 }
 
 pub(crate) fn block<'s, 'a, F: Scanned, L: Ledger>(

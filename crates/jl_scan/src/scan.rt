@@ -10,7 +10,7 @@ ghost use Rattle.jl_scan.specs.Files.{IsFile, field_of};
 ghost use Rattle.jl_scan.specs.Reaching.{IsKnown, Reaches, is_at_hand};
 ghost use Rattle.jl_scan.specs.Walk.{walk};
 
-use crate::block::{at_hand, cell};
+use crate::block::{cell, look_at};
 use crate::numbers::{block_at, edge_after};
 use crate::reaching::{know_walk, over};
 use crate::{File, Published, Scanned};
@@ -154,7 +154,7 @@ impl<'a, F: Scanned> Scan<'a, F> {
         ensures kept { Keeps pass.old pass.new }
         ensures cells { pass.new.cells ≡ pass.old.cells }
     {
-        if at_hand(self, pass, 0, k).is_some() {
+        if look_at(self, pass, 0, k).is_some() {
             return Ok(());
         }
         let value = Published::of_tape(alloc, &self.file, k, tape, fault)?;

@@ -3,7 +3,7 @@ use Rattle.std.specs.FinMap.{get}
 use Rattle.std.specs.Prelude.{IsSome}
 use Rattle.jl_cells.proofs.KnowledgeLemmas.{learns_known}
 use Rattle.jl_scan.proofs.KnownLemmas.{same_of}
-use Rattle.jl_scan.proofs.block.at_hand.Goals as goal
+use Rattle.jl_scan.proofs.block.look_at.Goals as goal
 
 pub returns-then-is_of-clause-found : goal.returns-then-is_of-clause-found
 returns-then-is_of-clause-found g c =

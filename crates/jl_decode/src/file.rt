@@ -16,7 +16,7 @@ use jl_base::{Sink, Space};
 use jl_drive::Gate;
 use jl_frames::{Frames, Plan, index};
 use jl_lines::{Broken, Counts, Decoding, Writing};
-use jl_rows::{Head, Options, head_at};
+use jl_rows::{Head, Options, head};
 use jl_scan::File;
 use std::alloc::Global;
 use std::thread::Threads;
@@ -79,7 +79,7 @@ fn decode_space<R: Threads + Sync, K: Sink, G: Gate>(
     requires some { 0 < per }
     ensures { Delivers (all_of (written writing) (decode strict space.now)) (outlet K.held K.faults out.old) (outlet K.held K.faults out.new) (λ counts. at_end counts) result }
 {
-    match head_at(space.bytes()).under(strict) {
+    match head(space).under(strict) {
         Head::Empty => Ok(Counts {
             statements: 0,
             namespaces: 0,

@@ -7,7 +7,7 @@ ghost use Rattle.jl_state.specs.Lawful.{IsLawful};
 use crate::{Decoding, Page, Refused, Writing};
 use jl_base::{Fault, Kind, Place, Run, Space};
 use jl_frames::{Frames, index};
-use jl_rows::{Head, Options, head_at};
+use jl_rows::{Head, Options, head};
 use jl_tape::{Tape, read_run};
 use std::alloc::{AllocError, Global};
 use std::process::Abort;
@@ -105,7 +105,7 @@ fn lines_from_tapes(
     assert!(rt; file.len() < 1000);
     let space = Space::from_bytes(alloc, file)?;
     let frames = index(alloc, &space)?;
-    let Head::First(options, _) = head_at(space.bytes()) else {
+    let Head::First(options, _) = head(&space) else {
         return Ok(None);
     };
     let mut decoding = opened(alloc, space.bytes(), &options)?;

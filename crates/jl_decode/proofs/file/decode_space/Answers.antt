@@ -14,7 +14,7 @@ use Rattle.jl_decode.proofs.file.decode_space.Goals as goal
 pub returns-in-Empty : goal.returns-in-Empty
 returns-in-Empty g c =
     let bytes = c.args.space.now in
-    let head = head_under bytes c.args.strict (head_seen bytes c.head_at.result) decoder.Nothing (rw c.bytes.ensures.all at c.head_at.ensures.exact) (c.in-Empty.ensures.exact bytes) in
+    let head = head_under bytes c.args.strict (head_seen bytes c.head.result) decoder.Nothing c.head.ensures.exact (c.in-Empty.ensures.exact bytes) in
     let said = decode_empty bytes c.args.strict head in
     passes_none (all_of (written c.args.writing) (decode c.args.strict bytes)) (at_end none_counted) (outlet g.K.Sink.held g.K.Sink.faults c.args.out.now)
     (ap (all_of (written c.args.writing)) said)
@@ -22,7 +22,7 @@ returns-in-Empty g c =
 pub returns-in-Bad : goal.returns-in-Bad
 returns-in-Bad g c =
     let bytes = c.args.space.now in
-    let head = head_under bytes c.args.strict (head_seen bytes c.head_at.result) (decoder.Bad c.in-Bad.fault) (rw c.bytes.ensures.all at c.head_at.ensures.exact) (c.in-Bad.ensures.exact bytes) in
+    let head = head_under bytes c.args.strict (head_seen bytes c.head.result) (decoder.Bad c.in-Bad.fault) c.head.ensures.exact (c.in-Bad.ensures.exact bytes) in
     let said = ap (all_of (written c.args.writing)) (decode_bad bytes c.args.strict c.in-Bad.fault head) in
     breaks_fault (all_of (written c.args.writing) (decode c.args.strict bytes)) (outlet g.K.Sink.held g.K.Sink.faults c.args.out.now) c.in-Bad.fault (ap (λ (x : Outcome). x.fault) said) (ap (λ (x : Outcome). x.lines) said)
 
@@ -30,5 +30,5 @@ pub returns-in-First : goal.returns-in-First
 returns-in-First g c =
     let bytes = c.args.space.now in
     let o = options_seen bytes c.in-First.options in
-    let head = head_under bytes c.args.strict (head_seen bytes c.head_at.result) (decoder.First o c.in-First.field-1) (rw c.bytes.ensures.all at c.head_at.ensures.exact) (c.in-First.ensures.exact bytes) in
+    let head = head_under bytes c.args.strict (head_seen bytes c.head.result) (decoder.First o c.in-First.field-1) c.head.ensures.exact (c.in-First.ensures.exact bytes) in
     rw (decode_first bytes c.args.strict o c.in-First.field-1 head) c.decode_under.ensures

@@ -28,7 +28,7 @@ pub enum Head {
 const MOST_ENTRIES: u32 = 65_536;
 
 /// The head of a file with these bytes. It is found without reading further than the first row.
-pub(crate) fn file_head(bytes: &[u8]) -> Head
+pub fn file_head(bytes: &[u8]) -> Head
     ensures exact { head_seen bytes.now result ≡ spec.head false bytes.now }
     ensures passed { HasHead bytes.now result }
 {

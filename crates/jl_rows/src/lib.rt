@@ -26,7 +26,7 @@ mod usual_terms;
 #[cfg(test)]
 mod usual_tests;
 
-pub use first_row::{Head, head_in};
+pub use first_row::{Head, file_head, head_in};
 pub use frame::next_frame;
 pub use frame_rows::{next_row_at, next_row_into};
 pub use in_space::{head, head_at, next_row, triple_term};

@@ -71,19 +71,21 @@ slots_more from into into' slots carried i d e' lt before grown one bytes g =
     let e = slice_index_or slots i d in
     let b = before bytes (grows_then into into' bytes grown g) in
     let c = one bytes g in
-    let front : take (i + 1) slots ≡ take i slots ++ e ∷ [] = take_more slots i d lt in
-    (map_push (slot_seen bytes) carried e' ∙ ap (λ (xs : List (Option (List ℕ))). xs ++ slot_seen bytes e' ∷ []) b.0 ∙ ap (λ (x : Option (List ℕ)). map (slot_seen from) (take i slots) ++ x ∷ []) c.0
-        ∙ sym (map_push (slot_seen from) (take i slots) e) ∙ ap (map (slot_seen from)) (sym front),
-     sound_push bytes carried e' b.1 c.1)
+    let front : take (i + 1) slots ≡ take i slots ++ e ∷ [] = take_more slots i d lt in (
+      map_push (slot_seen bytes) carried e' ∙ ap (λ (xs : List (Option (List ℕ))). xs ++ slot_seen bytes e' ∷ []) b.0 ∙ ap (λ (x : Option (List ℕ)). map (slot_seen from) (take i slots) ++ x ∷ []) c.0
+          ∙ sym (map_push (slot_seen from) (take i slots) e) ∙ ap (map (slot_seen from)) (sym front),
+      sound_push bytes carried e' b.1 c.1,
+    )
 
 -- terms from their texts
 module _ (from into into' : List ℕ) (grown : Grows into into') where
   pub iri_carried : (p p' n n' : Extent) → IsSound from p → IsSound from n → CarriesText from into p p' → CarriesText from into' n n' → CarriesTerm from into' (known.Iri p n) (known.Iri p' n')
   iri_carried p p' n n' sp sn cp cn bytes g =
       let a = cp bytes (grows_then into into' bytes grown g) in
-      let b = cn bytes g in
-      (ap (λ (t : List ℕ). terms.Iri (t ++ text_in bytes n')) a.0 ∙ ap (λ (t : List ℕ). terms.Iri (text_in from p ++ t)) b.0,
-       (sound_carried from bytes p p' a.0 a.1 a.2 sp, sound_carried from bytes n n' b.0 b.1 b.2 sn))
+      let b = cn bytes g in (
+        ap (λ (t : List ℕ). terms.Iri (t ++ text_in bytes n')) a.0 ∙ ap (λ (t : List ℕ). terms.Iri (text_in from p ++ t)) b.0,
+        (sound_carried from bytes p p' a.0 a.1 a.2 sp, sound_carried from bytes n n' b.0 b.1 b.2 sn),
+      )
 
   pub literal_carried : (l l' : Extent) (t t' : KnownTail) → CarriesText from into l l' → CarriesTail from into' t t' → CarriesTerm from into' (known.Literal l t) (known.Literal l' t')
   literal_carried l l' t t' cl ct bytes g =
@@ -133,23 +135,23 @@ state_carried from bytes s s' lawful o n p d a b c g og ne pe de last =
     let few_p = ap length p.0 in
     let few_d = ap length d.0 in
     record {
-     seen = rw (n.0, p.0, d.0, a.0, b.0, c.0, g.0, og.0, ne, pe, de, last) refl;
-     options = o.seen;
-     lawful = record {
-       options = o.inside;
-       tables = record { names = n.1; prefixes = p.1; datatypes = d.1; few = omega (arith, few, length-map s'.tables.names.items (slot_seen bytes), length-map s.tables.names.items (slot_seen from), lawful.tables.few) };
-       prefixes = omega (arith, few_p, length-map s'.tables.prefixes.items (slot_seen bytes), length-map s.tables.prefixes.items (slot_seen from), lawful.prefixes);
-       datatypes = omega (arith, few_d, length-map s'.tables.datatypes.items (slot_seen bytes), length-map s.tables.datatypes.items (slot_seen from), lawful.datatypes);
-       name_entry = omega (arith, ne, lawful.name_entry);
-       prefix_entry = omega (arith, pe, lawful.prefix_entry);
-       datatype_entry = omega (arith, de, lawful.datatype_entry);
-       last = rw last lawful.last;
-       subject = a.1;
-       predicate = b.1;
-       object = c.1;
-       graph = g.1;
-       open_graph = og.1;
-     };
+      seen = rw (n.0, p.0, d.0, a.0, b.0, c.0, g.0, og.0, ne, pe, de, last) refl;
+      options = o.seen;
+      lawful = record {
+        options = o.inside;
+        tables = record { names = n.1; prefixes = p.1; datatypes = d.1; few = omega (arith, few, length-map s'.tables.names.items (slot_seen bytes), length-map s.tables.names.items (slot_seen from), lawful.tables.few) };
+        prefixes = omega (arith, few_p, length-map s'.tables.prefixes.items (slot_seen bytes), length-map s.tables.prefixes.items (slot_seen from), lawful.prefixes);
+        datatypes = omega (arith, few_d, length-map s'.tables.datatypes.items (slot_seen bytes), length-map s.tables.datatypes.items (slot_seen from), lawful.datatypes);
+        name_entry = omega (arith, ne, lawful.name_entry);
+        prefix_entry = omega (arith, pe, lawful.prefix_entry);
+        datatype_entry = omega (arith, de, lawful.datatype_entry);
+        last = rw last lawful.last;
+        subject = a.1;
+        predicate = b.1;
+        object = c.1;
+        graph = g.1;
+        open_graph = og.1;
+      };
     }
 
 -- what was put after some bytes is cut off again

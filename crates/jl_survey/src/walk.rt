@@ -8,7 +8,7 @@ ghost use Rattle.jl_survey.specs.Counting.{AreFew, Begins, ComesOn, ComesToFrame
 use crate::metadata::metadata_between;
 use crate::numbers::Survey;
 use jl_base::{Fault, Kind, Place, Space};
-use jl_rows::{Head, Row, head_at, next_frame, next_row_into};
+use jl_rows::{Head, Row, file_head, next_frame, next_row_into};
 
 // A fault at a row of a frame, or at row 0, which is the frame itself.
 fn malformed(frame: u64, row: u32, kind: Kind) -> Fault
@@ -25,7 +25,7 @@ impl Survey {
     fn begun(bytes: &[u8]) -> Result<Survey, Fault>
         ensures { Begins bytes.now result }
     {
-        match head_at(bytes) {
+        match file_head(bytes) {
             Head::Empty => Ok(Survey::new(bytes.len() as u64, None)),
             Head::First(options, _) => Ok(Survey::new(bytes.len() as u64, Some(options))),
             Head::Bad(fault) => Err(fault),

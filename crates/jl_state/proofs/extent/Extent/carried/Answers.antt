@@ -11,4 +11,4 @@ returns-clause-carries c =
     let here : length c.bytes-at.result.now ≡ length into = ap length c.bytes-at.ensures.all in
     let small : length into < 2 ^ 30 = omega (arith, here, c.if-at.false) in
     text_carried from into c.append.new.self c.args.self (record { at = length c.bytes-at.result.now + c.args.self.at / 2 ^ 30 * 2 ^ 30; len = c.args.self.len }) (c.in_ok-append.ensures.ok ∙ ap (λ (x : List ℕ). into ++ x) text) c.requires small
-        (ap (λ (n : ℕ). n + c.args.self.at / 2 ^ 30 * 2 ^ 30) here) refl
+    (ap (λ (n : ℕ). n + c.args.self.at / 2 ^ 30 * 2 ^ 30) here) refl

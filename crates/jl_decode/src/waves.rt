@@ -30,6 +30,13 @@ use std::thread::Threads;
 /// How many workers there may be.
 const MOST_WORKERS: u32 = 64;
 
+/// How many runs are shared out at once at most, as many as a wave has.
+const MOST_RUNS: u64 = 64;
+
+/// How many runs are shared out at once for each worker. What is kept of them until all are decoded is their text, and
+/// what they do: fewer take less memory, and more make workers wait less for the last of them.
+const RUNS_EACH: u64 = 8;
+
 // The items of all frames, wave by wave.
 fn decode_waves<K: Sink>(
     decoding: &mut Decoding,
@@ -104,7 +111,17 @@ fn keep_as_many(kept: &mut Vec<Kept<LineTools>>, runs: u64)
     }
 }
 
-// The items of all frames, each wave by several workers.
+// How many runs are shared out at once, of those that are left: so many for each worker, and no more than a wave.
+fn portion(workers: u64, left: u64) -> u64
+    requires workers { workers ≤ 64 }
+    ensures within { result ≤ left }
+    ensures some { 0 < workers → 0 < left → 0 < result }
+    ensures few { result ≤ 2 ^ 32 }
+{
+    left.min(MOST_RUNS).min(RUNS_EACH * workers)
+}
+
+// The items of all frames, portion by portion, each by several workers.
 fn share_waves<R: Threads + Sync, K: Sink, G: Gate>(
     rt: &R,
     alloc: Global,
@@ -123,21 +140,16 @@ fn share_waves<R: Threads + Sync, K: Sink, G: Gate>(
     ensures empty { OnOk result (decoding.new.page.lines ≡ []) }
 {
     let mut kept = kept;
-    for w in 0..file.plan.waves() {
-        let (first, next) = file.plan.wave(w);
-        // Only the last wave may have few runs.
-        keep_as_many(&mut kept, next - first);
+    let all = file.plan.runs();
+    let mut done = 0;
+    'by_portion: while done < all {
+        let runs = portion(kept.len() as u64, all - done);
+        // Only the last portion may have few runs.
+        keep_as_many(&mut kept, runs);
         kept = share_wave::<R, Brand, K, G>(
-            rt,
-            alloc,
-            file,
-            first,
-            next - first,
-            decoding,
-            kept,
-            gate,
-            out,
+            rt, alloc, file, done, runs, decoding, kept, gate, out,
         )?;
+        done += runs;
     }
     Ok(())
 }

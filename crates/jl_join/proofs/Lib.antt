@@ -1,3 +1,5 @@
 pub mod LabelLemmas
+pub mod MergedLemmas
+pub mod PartLemmas
 pub mod TermLemmas
 mod WorkedItems

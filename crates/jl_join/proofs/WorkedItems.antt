@@ -1,7 +1,7 @@
 -- Items that were joined and cut by hand, held against the definitions by computing.
-use Rattle.std.proofs.Common.{◌≡◌, ℕ, true, false, List, [], ◌∷◌, codes, refl}
+use Rattle.std.proofs.Common.{◌≡◌, true, false, [], ◌∷◌, codes, refl}
 use Rattle.std.specs.Fmt.{digits}
-use Rattle.jl_base.specs.Terms.{Value, Tail, Iri, Bnode, Literal, Nested, Default, Item, Triple, Quad, Namespace, Lang}
+use Rattle.jl_base.specs.Terms.{Value, Iri, Bnode, Literal, Nested, Default, Item, Triple, Quad, Namespace, Lang}
 use Rattle.jl_join.specs.Relabelling.{relabelled_label, relabelled_term, relabelled, widened}
 use Rattle.jl_join.specs.Merging.{merged_from, merged, parts_after, parts}
 

@@ -1,5 +1,5 @@
 -- The items of several files as those of one, and the items of one file as those of several.
-use Rattle.std.specs.Prelude.{ℕ, zero, suc, ◌+◌, ◌-◌, Bool, List, [], ◌∷◌, ◌++◌, map, take, if◌then◌else◌}
+use Rattle.std.specs.Prelude.{◌≡◌, ℕ, zero, suc, ◌+◌, ◌-◌, ◌<◌, ◌≤◌, Bool, List, [], ◌∷◌, ◌++◌, length, map, take, if◌then◌else◌}
 use Rattle.jl_base.specs.Terms.{Item}
 use Rattle.jl_join.specs.Relabelling.{relabelled, widened}
 
@@ -26,3 +26,9 @@ parts_after (suc skip) n (item ∷ items) = parts_after skip n items
 -- The items in lists of n each; the last has 1 to n. Without any item there is no list.
 abbrev pub parts : List Item → ℕ → List (List Item)
 parts items n = parts_after 0 n items
+
+-- Each has n items, but for the last, which has 1 to n.
+abbrev pub AreCut : ℕ → List (List Item) → Type 0
+AreCut n [] = Unit {0}
+AreCut n (part ∷ []) = (0 < length part) × (length part ≤ n)
+AreCut n (part ∷ next ∷ more) = (length part ≡ n) × AreCut n (next ∷ more)

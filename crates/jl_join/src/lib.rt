@@ -9,6 +9,6 @@ mod laws;
 mod relabelling;
 mod widening;
 
-pub use laws::{items_stay_apart, labels_stay_apart};
+pub use laws::{files_are_merged, items_stay_apart, labels_stay_apart, parts_are_the_items};
 pub use relabelling::relabel;
 pub use widening::widen;

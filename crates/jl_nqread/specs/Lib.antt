@@ -1,0 +1,4 @@
+pub mod Taking
+pub mod Grammar
+pub mod Lines
+pub mod Seen

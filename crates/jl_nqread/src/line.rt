@@ -70,7 +70,7 @@ fn shape_after_blanks(bytes: &[u8], at: usize) -> Shape
 }
 
 /// The shape of a line, which is given without the line feed or carriage return that ends it. A line that isn't UTF-8 is
-/// Bad. It takes no memory, and each byte is read at most three times.
+/// Bad. It takes no memory.
 #[tactic(auto, unfolding(crate::specs::Lines::shape_of))]
 pub fn shape(line: &[u8]) -> Shape
     ensures { result ≡ spec.shape_of line.now }

@@ -1,2 +1,3 @@
-pub mod TakingLaws
 pub mod GrammarLaws
+pub mod TakingLaws
+pub mod WorkedLines

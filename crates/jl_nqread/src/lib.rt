@@ -6,8 +6,8 @@
 
 mod escape;
 mod line;
-mod quoted;
 mod line_shape;
+mod quoted;
 mod take;
 mod term;
 

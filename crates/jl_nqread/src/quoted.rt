@@ -32,7 +32,11 @@ fn iri_char(bytes: &[u8], at: usize) -> Option<usize>
     if bytes[at] == b'\\' {
         return uchar(bytes, at + 1);
     }
-    if is_iri_byte(bytes[at]) { Some(1) } else { None }
+    if is_iri_byte(bytes[at]) {
+        Some(1)
+    } else {
+        None
+    }
 }
 
 fn iri_end(bytes: &[u8], from: usize) -> Option<usize>
@@ -87,7 +91,11 @@ fn string_char(bytes: &[u8], at: usize) -> Option<usize>
     if bytes[at] == b'\\' {
         return string_escape(bytes, at + 1);
     }
-    if is_string_byte(bytes[at]) { Some(1) } else { None }
+    if is_string_byte(bytes[at]) {
+        Some(1)
+    } else {
+        None
+    }
 }
 
 fn string_end(bytes: &[u8], from: usize) -> Option<usize>

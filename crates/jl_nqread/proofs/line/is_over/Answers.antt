@@ -1,4 +1,4 @@
-use Rattle.std.proofs.Common.{sym, ap, drop, arith}
+use Rattle.std.proofs.Common.{sym, ap, arith}
 use Rattle.std.proofs.lemmas.List.{drop_more, at_drop_all}
 use Rattle.jl_nqread.specs.Lines.{is_over}
 use Rattle.jl_nqread.proofs.line.is_over.Goals as goal

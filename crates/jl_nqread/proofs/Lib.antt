@@ -1,3 +1,4 @@
 pub mod GrammarLaws
 pub mod TakingLaws
 pub mod WorkedLines
+pub mod MeaningLaws

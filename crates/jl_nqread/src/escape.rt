@@ -41,8 +41,9 @@ fn digit_at(bytes: &[u8], at: usize, k: usize) -> Option<u32>
     None
 }
 
+/// The number of four digits, so many bytes after a place.
 #[tactic(auto, unfolding(crate::specs::Grammar::four_digits))]
-fn four_digits(bytes: &[u8], at: usize, k: usize) -> Option<u32>
+pub fn four_digits(bytes: &[u8], at: usize, k: usize) -> Option<u32>
     requires { k ≤ 4 }
     ensures exact { result ≡ spec.four_digits k (drop at bytes.now) }
     ensures inside { IfSome result (λ _. at + k + 3 < length bytes.now) }
@@ -55,8 +56,9 @@ fn four_digits(bytes: &[u8], at: usize, k: usize) -> Option<u32>
     Some(4096 * a + 256 * b + 16 * c + d)
 }
 
+/// The number of eight digits at a place.
 #[tactic(auto, unfolding(crate::specs::Grammar::eight_digits))]
-fn eight_digits(bytes: &[u8], at: usize) -> Option<u32>
+pub fn eight_digits(bytes: &[u8], at: usize) -> Option<u32>
     ensures exact { result ≡ spec.eight_digits (drop at bytes.now) }
     ensures inside { IfSome result (λ _. at + 7 < length bytes.now) }
 {

@@ -5,10 +5,7 @@ ghost use Rattle.jl_nqread.specs.Lines as spec;
 
 use crate::Shape;
 use crate::take::{blanks, byte, stands};
-use crate::term::{plain_term, term};
-
-// How many triple terms may stand one in another.
-const MOST_NESTED: u32 = 32;
+use crate::terms::{MOST_NESTED, plain_term, term};
 
 fn is_utf8(text: &[u8]) -> bool
     ensures { result ≡ is_utf8 text.now }
@@ -23,9 +20,9 @@ fn is_done(bytes: &[u8], at: usize) -> bool
     at >= bytes.len() || bytes[at] == b'#'
 }
 
-// This shape, where a full stop ends the statement at a place.
+/// This shape, where a full stop ends the statement at a place.
 #[tactic(auto, unfolding(crate::specs::Lines::ended))]
-fn ended(shape: Shape, bytes: &[u8], at: usize) -> Option<Shape>
+pub fn ended(shape: Shape, bytes: &[u8], at: usize) -> Option<Shape>
     ensures { result ≡ spec.ended shape (drop at bytes.now) }
 {
     let rest = byte(bytes, at, b'.')?;

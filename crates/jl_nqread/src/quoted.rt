@@ -40,7 +40,8 @@ fn iri_char(bytes: &[u8], at: usize) -> Option<usize>
 }
 
 fn iri_end(bytes: &[u8], from: usize) -> Option<usize>
-    ensures { Leaves bytes.now result (taking.closed spec.iri_char 62 0 (drop from bytes.now)) }
+    ensures inside { IfSome result (λ end. (from < end) × (end ≤ length bytes.now)) }
+    ensures exact { Leaves bytes.now result (taking.closed spec.iri_char 62 0 (drop from bytes.now)) }
 {
     let mut at = from;
     'chars: loop {
@@ -55,7 +56,8 @@ fn iri_end(bytes: &[u8], from: usize) -> Option<usize>
 /// The place after an IRI with its brackets.
 #[tactic(auto, unfolding(crate::specs::Grammar::iri))]
 pub fn iri(bytes: &[u8], at: usize) -> Option<usize>
-    ensures { Leaves bytes.now result (spec.iri (drop at bytes.now)) }
+    ensures exact { Leaves bytes.now result (spec.iri (drop at bytes.now)) }
+    ensures inside { IfSome result (λ end. (at + 2 ≤ end) × (end ≤ length bytes.now)) }
 {
     let inside = byte(bytes, at, b'<')?;
     iri_end(bytes, inside)
@@ -99,7 +101,8 @@ fn string_char(bytes: &[u8], at: usize) -> Option<usize>
 }
 
 fn string_end(bytes: &[u8], from: usize) -> Option<usize>
-    ensures { Leaves bytes.now result (taking.closed spec.string_char 34 0 (drop from bytes.now)) }
+    ensures inside { IfSome result (λ end. (from < end) × (end ≤ length bytes.now)) }
+    ensures exact { Leaves bytes.now result (taking.closed spec.string_char 34 0 (drop from bytes.now)) }
 {
     let mut at = from;
     'chars: loop {
@@ -114,7 +117,8 @@ fn string_end(bytes: &[u8], from: usize) -> Option<usize>
 /// The place after a string with its quotes.
 #[tactic(auto, unfolding(crate::specs::Grammar::string))]
 pub fn string(bytes: &[u8], at: usize) -> Option<usize>
-    ensures { Leaves bytes.now result (spec.string (drop at bytes.now)) }
+    ensures exact { Leaves bytes.now result (spec.string (drop at bytes.now)) }
+    ensures inside { IfSome result (λ end. (at + 2 ≤ end) × (end ≤ length bytes.now)) }
 {
     let inside = byte(bytes, at, b'"')?;
     string_end(bytes, inside)

@@ -1,5 +1,5 @@
 //! Taking bytes at a place.
-ghost use Rattle.std.specs.Prelude.{◌≡◌, ◌<◌, ◌==◌, IsTrue, length, drop};
+ghost use Rattle.std.specs.Prelude.{◌≡◌, ◌+◌, ◌<◌, ◌≤◌, ◌==◌, IfSome, IsTrue, length, drop};
 ghost use Rattle.jl_nqread.specs.Taking as taking;
 ghost use Rattle.jl_nqread.specs.Grammar as spec;
 ghost use Rattle.jl_nqread.specs.Seen.{Leaves};
@@ -14,7 +14,8 @@ pub fn stands(bytes: &[u8], at: usize, wanted: u8) -> bool
 
 /// The place after this byte.
 pub fn byte(bytes: &[u8], at: usize, wanted: u8) -> Option<usize>
-    ensures { Leaves bytes.now result (taking.byte wanted (drop at bytes.now)) }
+    ensures exact { Leaves bytes.now result (taking.byte wanted (drop at bytes.now)) }
+    ensures inside { IfSome result (λ end. (end ≡ at + 1) × (end ≤ length bytes.now)) }
 {
     if at < bytes.len() && bytes[at] == wanted {
         return Some(at + 1);
@@ -25,7 +26,8 @@ pub fn byte(bytes: &[u8], at: usize, wanted: u8) -> Option<usize>
 /// The place after this byte twice.
 #[tactic(auto, unfolding(crate::specs::Taking::twice))]
 pub fn twice(bytes: &[u8], at: usize, wanted: u8) -> Option<usize>
-    ensures { Leaves bytes.now result (taking.twice wanted (drop at bytes.now)) }
+    ensures exact { Leaves bytes.now result (taking.twice wanted (drop at bytes.now)) }
+    ensures inside { IfSome result (λ end. (end ≡ at + 2) × (end ≤ length bytes.now)) }
 {
     let second = byte(bytes, at, wanted)?;
     byte(bytes, second, wanted)

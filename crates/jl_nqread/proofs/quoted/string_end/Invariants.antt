@@ -1,10 +1,10 @@
-use Rattle.std.proofs.Common.{◌≡◌, ◌-◌, length, drop}
+use Rattle.std.proofs.Common.{◌≡◌, ◌-◌, ◌≤◌, length, drop}
 use Rattle.jl_nqread.specs.Taking.{closed}
 use Rattle.jl_nqread.specs.Grammar.{string_char}
 use Rattle.jl_nqread.proofs.quoted.string_end.Given as goal
 
 abbrev pub invariant-chars : goal.invariant-chars
-invariant-chars l = closed string_char 34 0 (drop l.fn.from l.bytes) ≡ closed string_char 34 0 (drop l.at l.bytes)
+invariant-chars l = (closed string_char 34 0 (drop l.fn.from l.bytes) ≡ closed string_char 34 0 (drop l.at l.bytes)) × (l.fn.from ≤ l.at)
 
 abbrev pub decreases-chars : goal.decreases-chars
 decreases-chars l = length l.bytes - l.at

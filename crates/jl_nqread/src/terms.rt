@@ -1,5 +1,5 @@
 //! Terms.
-ghost use Rattle.std.specs.Prelude.{◌≡◌, ◌+◌, ◌<◌, ◌==◌, IsTrue, length, drop, slice_index, if◌then◌else◌};
+ghost use Rattle.std.specs.Prelude.{◌≡◌, ◌+◌, ◌<◌, ◌≤◌, ◌==◌, IfSome, IsTrue, length, drop, slice_index, if◌then◌else◌};
 ghost use Rattle.std.specs.Char.{is_ascii_alphabetic, is_ascii_alphanumeric};
 ghost use Rattle.jl_nqread.specs.Taking as taking;
 ghost use Rattle.jl_nqread.specs.Grammar as spec;
@@ -7,6 +7,9 @@ ghost use Rattle.jl_nqread.specs.Seen.{Leaves};
 
 use crate::quoted::{iri, is_one_of, string};
 use crate::take::{blanks, byte, stands, twice};
+
+/// How many triple terms may stand one in another.
+pub const MOST_NESTED: u32 = 32;
 
 fn is_letter_at(bytes: &[u8], at: usize) -> bool
     ensures exact { result ≡ taking.starts is_ascii_alphabetic (drop at bytes.now) }
@@ -34,7 +37,9 @@ fn goes_on_tag(bytes: &[u8], at: usize) -> bool
 }
 
 fn letters(bytes: &[u8], from: usize) -> usize
-    ensures { drop result bytes.now ≡ taking.past (taking.starts is_ascii_alphabetic) (drop from bytes.now) }
+    requires { from ≤ length bytes.now }
+    ensures exact { drop result bytes.now ≡ taking.past (taking.starts is_ascii_alphabetic) (drop from bytes.now) }
+    ensures inside { (from ≤ result) × (result ≤ length bytes.now) }
 {
     let mut at = from;
     'run: while is_letter_at(bytes, at) {
@@ -44,7 +49,9 @@ fn letters(bytes: &[u8], from: usize) -> usize
 }
 
 fn groups(bytes: &[u8], from: usize) -> usize
-    ensures { drop result bytes.now ≡ taking.past spec.goes_on_tag (drop from bytes.now) }
+    requires { from ≤ length bytes.now }
+    ensures exact { drop result bytes.now ≡ taking.past spec.goes_on_tag (drop from bytes.now) }
+    ensures inside { (from ≤ result) × (result ≤ length bytes.now) }
 {
     let mut at = from;
     'run: while goes_on_tag(bytes, at) {
@@ -55,7 +62,9 @@ fn groups(bytes: &[u8], from: usize) -> usize
 
 #[tactic(auto, unfolding(crate::specs::Grammar::tag_groups))]
 fn tag_groups(bytes: &[u8], at: usize) -> usize
-    ensures { drop result bytes.now ≡ spec.tag_groups (drop at bytes.now) }
+    requires { at ≤ length bytes.now }
+    ensures exact { drop result bytes.now ≡ spec.tag_groups (drop at bytes.now) }
+    ensures inside { (at ≤ result) × (result ≤ length bytes.now) }
 {
     if stands(bytes, at, b'-') {
         return groups(bytes, at);
@@ -63,10 +72,11 @@ fn tag_groups(bytes: &[u8], at: usize) -> usize
     at
 }
 
-// The place after a language tag, from the one after its '@'.
+/// The place after a language tag, from the one after its '@'.
 #[tactic(auto, unfolding(crate::specs::Grammar::tag))]
-fn tag(bytes: &[u8], at: usize) -> Option<usize>
-    ensures { Leaves bytes.now result (spec.tag (drop at bytes.now)) }
+pub fn tag(bytes: &[u8], at: usize) -> Option<usize>
+    ensures exact { Leaves bytes.now result (spec.tag (drop at bytes.now)) }
+    ensures inside { IfSome result (λ end. (at ≤ end) × (end ≤ length bytes.now)) }
 {
     if !is_letter_at(bytes, at) {
         return None;
@@ -117,15 +127,19 @@ fn is_label_at(bytes: &[u8], at: usize) -> bool
 
 // The end of a label with the byte at a place, which was its end before it: no full stop counts till another byte comes.
 fn end_with(bytes: &[u8], at: usize, end: usize) -> usize
-    requires { at < length bytes.now }
-    ensures { result ≡ if slice_index bytes.now at == 46 then end else at + 1 }
+    requires inside { at < length bytes.now }
+    requires order { end ≤ at }
+    ensures exact { result ≡ if slice_index bytes.now at == 46 then end else at + 1 }
+    ensures order { (end ≤ result) × (result ≤ at + 1) }
 {
     if bytes[at] == b'.' { end } else { at + 1 }
 }
 
 // The place after a label whose first byte stands before a place.
 fn label_end(bytes: &[u8], from: usize) -> usize
-    ensures { drop result bytes.now ≡ spec.label_end (drop from bytes.now) (drop from bytes.now) }
+    requires { from ≤ length bytes.now }
+    ensures exact { drop result bytes.now ≡ spec.label_end (drop from bytes.now) (drop from bytes.now) }
+    ensures inside { (from ≤ result) × (result ≤ length bytes.now) }
 {
     let mut end = from;
     let mut at = from;
@@ -138,7 +152,8 @@ fn label_end(bytes: &[u8], from: usize) -> usize
 
 #[tactic(auto, unfolding(crate::specs::Grammar::label))]
 fn label(bytes: &[u8], at: usize) -> Option<usize>
-    ensures { Leaves bytes.now result (spec.label (drop at bytes.now)) }
+    ensures exact { Leaves bytes.now result (spec.label (drop at bytes.now)) }
+    ensures inside { IfSome result (λ end. (at ≤ end) × (end ≤ length bytes.now)) }
 {
     if at < bytes.len() && is_label_start(bytes[at]) {
         return Some(label_end(bytes, at + 1));
@@ -146,9 +161,11 @@ fn label(bytes: &[u8], at: usize) -> Option<usize>
     None
 }
 
+/// The place after a blank node.
 #[tactic(auto, unfolding(crate::specs::Grammar::blank_node))]
-fn blank_node(bytes: &[u8], at: usize) -> Option<usize>
-    ensures { Leaves bytes.now result (spec.blank_node (drop at bytes.now)) }
+pub fn blank_node(bytes: &[u8], at: usize) -> Option<usize>
+    ensures exact { Leaves bytes.now result (spec.blank_node (drop at bytes.now)) }
+    ensures inside { IfSome result (λ end. (at + 2 ≤ end) × (end ≤ length bytes.now)) }
 {
     let colon = byte(bytes, at, b'_')?;
     let start = byte(bytes, colon, b':')?;

@@ -1,5 +1,5 @@
 use Rattle.std.proofs.Common.{◌+◌, ◌*◌}
-use Rattle.jl_nqread.proofs.term.+terms.Given as goal
+use Rattle.jl_nqread.proofs.terms.+terms.Given as goal
 
 abbrev pub decreases-term : goal.decreases-term
 decreases-term l = 2 * l.depth

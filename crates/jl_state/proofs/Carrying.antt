@@ -1,9 +1,7 @@
 -- A state whose texts are carried into other bytes, one after another.
-use Rattle.std.proofs.Common.{◌≡◌, ℕ, suc, ◌+◌, ◌-◌, ◌*◌, ◌/◌, ◌%◌, ◌^◌, ◌<◌, ◌≤◌, ◌==◌, Bool, true, false, List, [], ◌∷◌, ◌++◌, length, map, take, drop, slice_range, slice_index_or, Option, Some, None, Result, Ok, Err, IfOk, refl, sym, ◌∙◌, ap, subst, arith, append_assoc, append-nil, take_at, drop_at, length-append, inl, inr, if◌then◌else◌}
-use Rattle.std.proofs.lemmas.Bool.{cases_lt, cases_eq}
-use Rattle.std.proofs.lemmas.List.{take_more, map_push, get_or_append_left, get_or_at, length-map}
-use Rattle.jl_base.specs.Spans.{IsInside, text_of}
-use Rattle.jl_base.specs.declared.place.Span.{Span}
+use Rattle.std.proofs.Common.{◌≡◌, ℕ, ◌+◌, ◌*◌, ◌/◌, ◌^◌, ◌<◌, ◌==◌, List, [], ◌∷◌, ◌++◌, length, map, take, slice_index_or, Option, Some, None, Result, Ok, Err, IfOk, refl, sym, ◌∙◌, ap, subst, arith, append_assoc, append-nil, take_at, length-append, inl, inr, if◌then◌else◌}
+use Rattle.std.proofs.lemmas.Bool.{cases_lt}
+use Rattle.std.proofs.lemmas.List.{take_more, map_push, flat_map_more, get_or_append_left, get_or_at, length-map}
 use Rattle.jl_wire.proofs.Ranges.{length-range}
 use Rattle.jl_state.specs.declared.extent.Extent.{Extent}
 use Rattle.jl_state.specs.declared.known.Known.{Known}
@@ -12,16 +10,18 @@ use Rattle.jl_state.specs.declared.known.KnownTail.TheVariants as tails
 use Rattle.jl_state.specs.declared.known.KnownThree.{KnownThree}
 use Rattle.jl_state.specs.declared.known.Known.TheVariants as known
 use Rattle.jl_state.specs.Extents.{place_of, mark_of, text_in, slot_seen, unfilled_len, IsFilled, IsHeld, IsMark, IsSound, AreSound}
-use Rattle.jl_state.specs.KnownTerms.{known_value, tail_value, HasKnown, HasTail}
+use Rattle.jl_state.specs.KnownTerms.{known_value, tail_value}
 use Rattle.jl_base.specs.Terms as terms
-use Rattle.jl_rows.specs.declared.options.Options.{Options}
-use Rattle.jl_rows.specs.Seen.{options_seen}
 use Rattle.jl_state.specs.declared.state.State.{State}
-use Rattle.jl_state.specs.Lawful.{state_seen, maybe_value, IsLawful, HasMaybe}
+use Rattle.jl_state.specs.Lawful.{maybe_value, IsLawful, HasMaybe}
 use Rattle.jl_rows.specs.Carries.{Grows, AreCarried}
+use Rattle.jl_rows.specs.Written.{StreamOptions}
+use Rattle.jl_state.specs.States as states
+use Rattle.jl_state.specs.Texts.{slot_text, table_text, value_text, maybe_text, texts_of}
 use Rattle.jl_rows.proofs.Carrying.{grows_then, seam, within}
 use Rattle.jl_state.specs.Carries.{CarriesText, CarriesSlot, CarriesSlots, CarriesTail, CarriesTerm, MeansTheSame}
 use Rattle.jl_state.proofs.NestedTerms.{value_of_nested, has_nested}
+use Rattle.jl_state.proofs.Slots.{filled_seen}
 
 pub text_carried : (from into new : List ℕ) (e e' : Extent) → new ≡ into ++ text_in from e → IsHeld from e → length into < 2 ^ 30 → e'.at ≡ length into + e.at / 2 ^ 30 * 2 ^ 30 → e'.len ≡ e.len → CarriesText from new e e'
 text_carried from into new e e' is held small at len bytes g =
@@ -157,3 +157,37 @@ state_carried from bytes s s' lawful o n p d a b c g og ne pe de last =
 -- what was put after some bytes is cut off again
 pub cut_back : (old new : List ℕ) (len : ℕ) → len ≡ length old → Grows old new → take len new ≡ old
 cut_back old new len here g = ap (take len) g.1 ∙ take_at old g.0 len (sym here)
+
+-- which bytes were added: two parts after one another, and no part
+pub two_after : (old a b x y : List ℕ) → a ≡ old ++ x → b ≡ a ++ y → b ≡ old ++ (x ++ y)
+two_after old a b x y p q = q ∙ ap (λ (z : List ℕ). z ++ y) p ∙ append_assoc old x y
+
+pub none_after : (old new more : List ℕ) → new ≡ old → more ≡ [] → new ≡ old ++ more
+none_after old new more same none = same ∙ sym (append-nil old) ∙ ap (λ (x : List ℕ). old ++ x) (sym none)
+
+pub slot_none_after : (from old : List ℕ) (e : Extent) → e.len ≡ unfilled_len → old ≡ old ++ slot_text (slot_seen from e)
+slot_none_after from old e none = rw none (sym (append-nil old))
+
+pub slot_text_after : (from old new : List ℕ) (e : Extent) → IsFilled e → new ≡ old ++ text_in from e → new ≡ old ++ slot_text (slot_seen from e)
+slot_text_after from old new e filled is = is ∙ ap (λ (x : List ℕ). old ++ x) (sym (ap slot_text (filled_seen from e (text_in from e) refl filled)))
+
+-- one more slot of a table
+pub slots_after : (from old into into' : List ℕ) (slots : List Extent) (i : ℕ) (d : Extent) → i < length slots → into ≡ old ++ table_text (map (slot_seen from) (take i slots))
+    → into' ≡ into ++ slot_text (slot_seen from (slice_index_or slots i d)) → into' ≡ old ++ table_text (map (slot_seen from) (take (i + 1) slots))
+slots_after from old into into' slots i d lt before one =
+    let e = slice_index_or slots i d in
+    one ∙ ap (λ (x : List ℕ). x ++ slot_text (slot_seen from e)) before ∙ flat_map_more slot_text old (map (slot_seen from) (take i slots)) (slot_seen from e)
+    ∙ ap (λ (xs : List (Option (List ℕ))). old ++ table_text xs) (sym (map_push (slot_seen from) (take i slots) e) ∙ ap (map (slot_seen from)) (sym (take_more slots i d lt)))
+
+-- the three of a triple term
+pub three_after : (from old a b c : List ℕ) (whole : Known) (three : KnownThree)
+    → known_value from whole ≡ terms.Nested (known_value from three.s) (known_value from three.p) (known_value from three.o)
+    → a ≡ old ++ value_text (known_value from three.s) → b ≡ a ++ value_text (known_value from three.p) → c ≡ b ++ value_text (known_value from three.o)
+    → c ≡ old ++ value_text (known_value from whole)
+three_after from old a b c whole three said s p o = rw (o, p, s, said) (simp append_assoc)
+
+-- all texts of a state
+pub all_after : (old m n p d : List ℕ) (o : StreamOptions) (s : states.State) → m ≡ old ++ o.stream_name → n ≡ m ++ table_text s.tables.names → p ≡ n ++ table_text s.tables.prefixes
+    → d ≡ p ++ table_text s.tables.datatypes → (a b c g h : List ℕ) → a ≡ d ++ maybe_text s.subject → b ≡ a ++ maybe_text s.predicate → c ≡ b ++ maybe_text s.object
+    → g ≡ c ++ maybe_text s.graph → h ≡ g ++ maybe_text s.open_graph → h ≡ old ++ texts_of o s
+all_after old m n p d o s em en ep ed a b c g h ea eb ec eg eh = rw (eh, eg, ec, eb, ea, ed, ep, en, em) (simp append_assoc)

@@ -9,3 +9,4 @@ pub mod Positions
 pub mod Answers
 pub mod Lawful
 pub mod Carries
+pub mod Texts

@@ -1,10 +1,12 @@
 //! A state with its texts in another space.
-ghost use Rattle.std.specs.Prelude.{◌≡◌, IfOk, OnErr, OnOk};
+ghost use Rattle.std.specs.Prelude.{◌≡◌, ◌++◌, map, IfOk, OnErr, OnOk};
 ghost use Rattle.jl_rows.specs.Carries.{Grows};
+ghost use Rattle.jl_rows.specs.Seen.{options_seen};
 ghost use Rattle.jl_state.specs.Carries.{CarriesMaybe, CarriesSlots, CarriesState, CarriesTail, CarriesTerm, MeansTheSame};
-ghost use Rattle.jl_state.specs.Extents.{AreSound, IsHeld, IsSound};
-ghost use Rattle.jl_state.specs.KnownTerms.{AreParts, HasKnown, HasTail};
-ghost use Rattle.jl_state.specs.Lawful.{HasMaybe, IsLawful};
+ghost use Rattle.jl_state.specs.Extents.{slot_seen, AreSound, IsHeld, IsSound};
+ghost use Rattle.jl_state.specs.KnownTerms.{known_value, tail_value, AreParts, HasKnown, HasTail};
+ghost use Rattle.jl_state.specs.Lawful.{maybe_value, state_seen, HasMaybe, IsLawful};
+ghost use Rattle.jl_state.specs.Texts.{maybe_text, table_text, tail_text, texts_of, value_text};
 ghost use Rattle.jl_state.specs.declared.known.Known as known;
 
 use crate::{Extent, Known, KnownTail, KnownThree, State, Tables};
@@ -21,6 +23,7 @@ fn carry_slots(
 ) -> Result<Vec<Extent>, AllocError>
     requires { AreSound from.now slots.now }
     ensures carries { IfOk result (λ carried. CarriesSlots from.now into.new slots.now carried.items) }
+    ensures after { OnOk result (into.new ≡ into.old ++ table_text (map (slot_seen from.now) slots.now)) }
     ensures grows { Grows into.old into.new }
 {
     let mut carried = Vec::with_capacity(alloc, slots.len())?;
@@ -34,6 +37,7 @@ fn carry_slots(
 fn carry_tail(from: &Space, into: &mut Space, tail: KnownTail) -> Result<KnownTail, AllocError>
     requires { HasTail from.now tail }
     ensures carries { IfOk result (CarriesTail from.now into.new tail) }
+    ensures after { OnOk result (into.new ≡ into.old ++ tail_text (tail_value from.now tail)) }
     ensures grows { Grows into.old into.new }
 {
     match tail {
@@ -52,6 +56,7 @@ fn carry_iri(
     requires prefix { IsSound from.now prefix }
     requires name { IsSound from.now name }
     ensures carries { IfOk result (CarriesTerm from.now into.new (known.Iri prefix name)) }
+    ensures after { OnOk result (into.new ≡ into.old ++ value_text (known_value from.now (known.Iri prefix name))) }
     ensures grows { Grows into.old into.new }
 {
     let prefix = prefix.carried(from, into)?;
@@ -68,6 +73,7 @@ fn carry_literal(
     requires lex { IsHeld from.now lex }
     requires tail { HasTail from.now tail }
     ensures carries { IfOk result (CarriesTerm from.now into.new (known.Literal lex tail)) }
+    ensures after { OnOk result (into.new ≡ into.old ++ value_text (known_value from.now (known.Literal lex tail))) }
     ensures grows { Grows into.old into.new }
 {
     let lex = lex.carried(from, into)?;
@@ -85,6 +91,7 @@ fn carry_known(
 ) -> Result<Known, AllocError>
     requires { HasKnown from.now term.now }
     ensures carries { IfOk result (CarriesTerm from.now into.new term.now) }
+    ensures after { OnOk result (into.new ≡ into.old ++ value_text (known_value from.now term.now)) }
     ensures grows { Grows into.old into.new }
 {
     match term {
@@ -108,6 +115,7 @@ fn carry_three(
     requires has { HasKnown from.now whole.now }
     requires parts { AreParts from.now whole.now three.now }
     ensures carries { IfOk result (CarriesTerm from.now into.new whole.now) }
+    ensures after { OnOk result (into.new ≡ into.old ++ value_text (known_value from.now whole.now)) }
     ensures grows { Grows into.old into.new }
 {
     let s = carry_known(alloc, from, into, &three.s)?;
@@ -125,6 +133,7 @@ fn carry_maybe(
 ) -> Result<Option<Known>, AllocError>
     requires { HasMaybe from.now term.now }
     ensures carries { IfOk result (CarriesMaybe from.now into.new term.now) }
+    ensures after { OnOk result (into.new ≡ into.old ++ maybe_text (maybe_value from.now term.now)) }
     ensures grows { Grows into.old into.new }
 {
     match term {
@@ -138,6 +147,7 @@ impl State {
     fn carried(&self, alloc: Global, from: &Space, into: &mut Space) -> Result<State, AllocError>
         requires { IsLawful from.now self.now }
         ensures carries { IfOk result (CarriesState from.now into.new self.now) }
+        ensures after { OnOk result (into.new ≡ into.old ++ texts_of (options_seen from.now self.now.options) (state_seen from.now self.now)) }
         ensures grows { Grows into.old into.new }
     {
         let options = self.options.carry(from, into)?;
@@ -174,6 +184,7 @@ impl State {
     pub fn carry(&self, alloc: Global, from: &Space, into: &mut Space) -> Result<State, AllocError>
         requires { IsLawful from.now self.now }
         ensures carries { IfOk result (CarriesState from.now into.new self.now) }
+        ensures after { OnOk result (into.new ≡ into.old ++ texts_of (options_seen from.now self.now.options) (state_seen from.now self.now)) }
         ensures grows { Grows into.old into.new }
         ensures refused { OnErr result (into.new ≡ into.old) }
     {
@@ -198,7 +209,8 @@ pub fn bring_texts(
     aside: &mut Space,
 ) -> Result<(), AllocError>
     requires { IsLawful space.old state.old }
-    ensures { OnOk result (MeansTheSame space.old state.old space.new state.new) }
+    ensures same { OnOk result (MeansTheSame space.old state.old space.new state.new) }
+    ensures alone { OnOk result (space.new ≡ texts_of (options_seen space.old state.old.options) (state_seen space.old state.old)) }
 {
     aside.cut(0);
     let carried = state.carry(alloc, space, aside)?;

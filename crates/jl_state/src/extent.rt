@@ -1,10 +1,11 @@
 //! Where a text lies, in eight bytes, with what is known of how it is written.
-ghost use Rattle.std.specs.Prelude.{◌≡◌, ◌≢◌, ◌↔◌, ◌≤◌, ℕ, List, IfOk, IsTrue, length};
+ghost use Rattle.std.specs.Prelude.{◌≡◌, ◌≢◌, ◌↔◌, ◌≤◌, ◌++◌, ℕ, List, IfOk, IsTrue, OnOk, length};
 ghost use Rattle.jl_base.specs.Limits.{most_bytes};
 ghost use Rattle.jl_base.specs.Spans.{text_of, IsInside};
 ghost use Rattle.jl_rows.specs.Carries.{Grows};
 ghost use Rattle.jl_state.specs.Carries.{CarriesSlot, CarriesText};
 ghost use Rattle.jl_state.specs.Extents.{text_in, slot_seen, mark_of, IsFilled, IsMark, IsSound, IsHeld, IsEmpty};
+ghost use Rattle.jl_state.specs.Texts.{slot_text};
 
 use jl_base::{Space, Span};
 use jl_text::{is_clean_iri, is_xsd_string};
@@ -126,6 +127,7 @@ impl Extent {
     pub(crate) fn carried(self, from: &Space, into: &mut Space) -> Result<Extent, AllocError>
         requires { IsHeld from.now self }
         ensures carries { IfOk result (CarriesText from.now into.new self) }
+        ensures after { OnOk result (into.new ≡ into.old ++ text_in from.now self) }
         ensures grows { Grows into.old into.new }
     {
         let at = into.bytes().len();
@@ -143,6 +145,7 @@ impl Extent {
     pub(crate) fn carried_slot(self, from: &Space, into: &mut Space) -> Result<Extent, AllocError>
         requires { IsFilled self → IsSound from.now self }
         ensures carries { IfOk result (CarriesSlot from.now into.new self) }
+        ensures after { OnOk result (into.new ≡ into.old ++ slot_text (slot_seen from.now self)) }
         ensures grows { Grows into.old into.new }
     {
         if !self.is_filled() {

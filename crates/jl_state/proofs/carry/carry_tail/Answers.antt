@@ -1,4 +1,4 @@
-use Rattle.std.proofs.Common.{◌≡◌, List, ℕ, subst, sym}
+use Rattle.std.proofs.Common.{subst, sym}
 use Rattle.jl_state.specs.declared.known.KnownTail.{KnownTail}
 use Rattle.jl_state.specs.declared.known.KnownTail.TheVariants as tails
 use Rattle.jl_state.specs.Carries.{CarriesTail}

@@ -12,3 +12,6 @@ returns-clause-carries c =
     let small : length into < 2 ^ 30 = omega (arith, here, c.if-at.false) in
     text_carried from into c.append.new.self c.args.self (record { at = length c.bytes-at.result.now + c.args.self.at / 2 ^ 30 * 2 ^ 30; len = c.args.self.len }) (c.in_ok-append.ensures.ok ∙ ap (λ (x : List ℕ). into ++ x) text) c.requires small
     (ap (λ (n : ℕ). n + c.args.self.at / 2 ^ 30 * 2 ^ 30) here) refl
+
+pub returns-clause-after : goal.returns-clause-after
+returns-clause-after c = c.in_ok-append.ensures.ok ∙ ap (λ (x : List ℕ). c.args.into.now ++ x) (c.text.ensures.all ∙ c.span.ensures.text c.args.from.now)

@@ -1,4 +1,4 @@
-use Rattle.std.proofs.Common.{◌≡◌, ap, length, ◌∙◌}
+use Rattle.std.proofs.Common.{ap, length, ◌∙◌}
 use Rattle.jl_rows.proofs.Carrying.{grows_same}
 use Rattle.jl_state.proofs.Carrying.{cut_back}
 use Rattle.jl_state.proofs.state.State.carry.Goals as goal

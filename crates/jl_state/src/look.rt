@@ -1,5 +1,5 @@
 //! Terms of a row, resolved: what they mean by where their texts lie.
-ghost use Rattle.std.specs.Prelude.{◌≡◌, ◌<◌, ◌≤◌, IfErr, IfOk, OnOk, false, length};
+ghost use Rattle.std.specs.Prelude.{◌≡◌, ◌<◌, ◌≤◌, IfErr, IfOk, OnOk, Some, false, length};
 ghost use Rattle.jl_base.specs.Limits.{most_bytes};
 ghost use Rattle.jl_rows.specs.Decoder as decoder;
 ghost use Rattle.jl_rows.specs.Seen as rows;
@@ -18,6 +18,18 @@ use jl_base::Kind;
 use jl_rows::{RawTerm, RawTriple, triple_term_at};
 use sqlite_items::Boxed;
 use std::alloc::Global;
+use std::mem;
+
+// Puts a term into a position's place. Of those that stood there only a triple term holds memory, so no other is dropped.
+#[inline(always)]
+fn put(before: &mut Option<Known>, known: Known)
+    ensures { before.new ≡ Some known }
+{
+    if let Some(Known::Triple(_)) = before {
+        *before = None;
+    }
+    mem::forget(mem::replace(before, Some(known)));
+}
 
 impl Lookup<'_> {
     /// A term that is no triple term, with the last ids behind it. It takes no memory.
@@ -81,11 +93,35 @@ impl Lookup<'_> {
             return Ok(());
         };
         if let RawTerm::Triple(_) = raw {
-            *before = Some(self.term::<STRICT>(alloc, x, last, *raw)?);
-            return Ok(());
+            return self.place_nested::<STRICT>(alloc, x, last, before, raw);
         }
         self.stands::<STRICT>(x, raw)?;
-        *before = Some(self.leaf(last, raw)?);
+        put(before, self.leaf(last, raw)?);
+        Ok(())
+    }
+
+    // A triple term at a position. It stands apart, since few files have one.
+    #[inline(never)]
+    fn place_nested<const STRICT: bool>(
+        self,
+        alloc: Global,
+        x: Position,
+        last: &mut LastIds,
+        before: &mut Option<Known>,
+        raw: &RawTerm,
+    ) -> Result<(), Stop>
+        requires tables { AreTables self.bytes.now self.tables.now }
+        requires inside { rows.HasTerm self.bytes.now raw.now }
+        requires short { length self.bytes.now ≤ most_bytes }
+        requires small { last.old.name ≤ decoder.most_entries }
+        ensures exact { Places self.entry.bytes.now
+            (steps.looked (slots_seen self.entry.bytes.now self.entry.tables.now) (ids_seen last.old)
+            (under STRICT (rows.options_seen self.entry.bytes.now self.entry.options.now) (position_of x) (rows.term_seen self.entry.bytes.now raw.now))) before.new last.new result }
+        ensures sound { OnOk result (HasMaybe self.entry.bytes.now before.new) }
+        ensures small { OnOk result (last.new.name ≤ decoder.most_entries) }
+        ensures memory { IfErr result (WantsFor (is_triple_term (rows.term_seen self.entry.bytes.now raw.now))) }
+    {
+        *before = Some(self.term::<STRICT>(alloc, x, last, *raw)?);
         Ok(())
     }
 

@@ -48,6 +48,7 @@ fn id_after(written: u32, last: u64) -> u64
 }
 
 // An entry of a table: its slot, and its id as the last one.
+#[inline(never)]
 pub(crate) fn enter(
     slots: &mut Vec<Extent>,
     last: &mut u64,

@@ -33,6 +33,7 @@ pub enum Stated {
 
 impl State {
     // An entry of a table.
+    #[inline(always)]
     fn enter(&mut self, bytes: &[u8], table: Table, id: u32, text: Span) -> Result<Stated, Stop>
         requires lawful { IsLawful bytes.now self.old }
         requires inside { IsInside bytes.now text }
@@ -79,6 +80,7 @@ impl State {
 
     // Where STRICT, each term is checked at its position. Rows with terms are compiled twice for it, so that other files
     // have one test a row.
+    #[inline(always)]
     fn triple<const STRICT: bool>(
         &mut self,
         alloc: Global,
@@ -128,6 +130,7 @@ impl State {
         Ok(Stated::Statement)
     }
 
+    #[inline(always)]
     fn quad<const STRICT: bool>(
         &mut self,
         alloc: Global,
@@ -273,8 +276,9 @@ impl State {
         }
     }
 
-    /// Takes one row: what it states, and the state behind it. Only a triple term takes memory, a box for its terms.
-    pub fn step(&mut self, alloc: Global, bytes: &[u8], row: &Row) -> Result<Stated, Stop>
+    // Takes one row of any kind.
+    #[inline(never)]
+    fn step_apart(&mut self, alloc: Global, bytes: &[u8], row: &Row) -> Result<Stated, Stop>
         requires lawful { IsLawful bytes.now self.old }
         requires inside { rows.HasRow bytes.now row.now }
         requires short { length bytes.now ≤ most_bytes }
@@ -305,6 +309,34 @@ impl State {
             Row::GraphEnd => self.graph_end(bytes),
             Row::Namespace { name, iri } => self.namespace(bytes, *name, *iri),
             Row::Entry { table, id, text } => self.enter(bytes, *table, *id, *text),
+        }
+    }
+
+    /// Takes one row: what it states, and the state behind it. Only a triple term takes memory, a box for its terms.
+    #[inline(always)]
+    pub fn step(&mut self, alloc: Global, bytes: &[u8], row: &Row) -> Result<Stated, Stop>
+        requires lawful { IsLawful bytes.now self.old }
+        requires inside { rows.HasRow bytes.now row.now }
+        requires short { length bytes.now ≤ most_bytes }
+        ensures exact { Steps bytes.now (rows.options_seen bytes.now self.old.options)
+            (steps.step (rows.options_seen bytes.now self.old.options) (rows.row_seen bytes.now row.now) (state_seen bytes.now self.old)) self.new result }
+        ensures lawful { OnOk result (IsLawful bytes.now self.new) }
+        ensures options { self.new.options ≡ self.old.options }
+        ensures stated { IfOk result (HasStated bytes.now) }
+        ensures memory { IfErr result (WantsFor (has_triple_term (rows.row_seen bytes.now row.now))) }
+    {
+        match row {
+            Row::Triple(triple) if self.options.physical != QUADS && !self.options.strict => {
+                self.triple::<false>(alloc, bytes, triple)
+            }
+            Row::Quad(quad) if self.options.physical == QUADS && !self.options.strict => {
+                self.quad::<false>(alloc, bytes, quad)
+            }
+            Row::Entry { table, id, text } => self.enter(bytes, *table, *id, *text),
+            _ => {
+                let stated = self.step_apart(alloc, bytes, row)?;
+                Ok(stated)
+            }
         }
     }
 }

@@ -88,7 +88,7 @@ fn are_within(bytes: &[u8], prefix: Span, name: Span) -> bool
 }
 
 /// Places the IRI whose text is a prefix and a name that an IRI has as they are.
-#[inline]
+#[inline(always)]
 pub fn place_iri(
     page: &mut [u8],
     at: usize,

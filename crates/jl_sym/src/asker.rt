@@ -33,7 +33,7 @@ use std::alloc::AllocError;
 pub(crate) struct Here<'a> {
     pub bytes: &'a [u8],
     pub options: &'a Options,
-    pub place: Place,
+    pub place: &'a Place,
 }
 
 /// A row of a run, after so many others and what they wrote.
@@ -49,11 +49,11 @@ impl Asker<'_, '_> {
     #[inline]
     fn push(&self, demands: &mut Vec<Demand>, kind: Kind, need: Need) -> Result<(), AllocError>
         ensures demands { OnOk result (demands_seen demands.new.items ≡ demands_seen demands.old.items
-            ++ record { moment = self.now.moment; fault = record { place = self.now.here.now.place; kind = kind }; need = need_seen need } ∷ []) }
+            ++ record { moment = self.now.moment; fault = record { place = self.now.here.now.place.now; kind = kind }; need = need_seen need } ∷ []) }
         ensures kept { OnErr result (demands.new.items ≡ demands.old.items) }
     {
         let fault = Fault {
-            place: self.here.place,
+            place: *self.here.place,
             kind,
         };
         demands.push(Demand {
@@ -75,8 +75,8 @@ impl Asker<'_, '_> {
     ) -> Result<(), Stop>
         requires good { AreAsked (earlier_of self.now) (demands_seen demands.old.items) marks.old }
         requires made { cutting.IsMadeNeed (need_seen need) }
-        ensures asks { Asks (options_of self.now.here.now) (earlier_of self.now) self.now.here.now.place (demands_seen demands.old.items)
-            (small.demand self.now.here.now.place kind (need_seen need) ∷ []) (demands_seen demands.new.items) result }
+        ensures asks { Asks (options_of self.now.here.now) (earlier_of self.now) self.now.here.now.place.now (demands_seen demands.old.items)
+            (small.demand self.now.here.now.place.now kind (need_seen need) ∷ []) (demands_seen demands.new.items) result }
         ensures good { AreAsked (earlier_of self.now) (demands_seen demands.new.items) marks.new }
     {
         self.push(demands, kind, need)?;
@@ -96,8 +96,8 @@ impl Asker<'_, '_> {
         requires good { AreAsked (earlier_of self.now) (demands_seen demands.old.items) marks.old }
         requires made { cutting.IsMadeNeed (need_seen need) }
         requires open { cutting.is_need_in (options_of self.now.here.now) (need_seen need) ≡ true }
-        ensures asks { Asks (options_of self.now.here.now) (earlier_of self.now) self.now.here.now.place (demands_seen demands.old.items)
-            (small.demand self.now.here.now.place kind (need_seen need) ∷ []) (demands_seen demands.new.items) result }
+        ensures asks { Asks (options_of self.now.here.now) (earlier_of self.now) self.now.here.now.place.now (demands_seen demands.old.items)
+            (small.demand self.now.here.now.place.now kind (need_seen need) ∷ []) (demands_seen demands.new.items) result }
         ensures good { AreAsked (earlier_of self.now) (demands_seen demands.new.items) marks.new }
     {
         if marks.has(need) {
@@ -118,8 +118,8 @@ impl Asker<'_, '_> {
     #[inline]
     pub fn fits(&self, demands: &mut Vec<Demand>, table: Table, id: RelativeId) -> Result<(), Stop>
         requires made { cutting.IsNext (id_seen id) }
-        ensures asks { Asks (options_of self.now.here.now) (earlier_of self.now) self.now.here.now.place (demands_seen demands.old.items)
-            (small.demand self.now.here.now.place Kind.BadEntry (sums.Fits table (id_seen id)) ∷ []) (demands_seen demands.new.items) result }
+        ensures asks { Asks (options_of self.now.here.now) (earlier_of self.now) self.now.here.now.place.now (demands_seen demands.old.items)
+            (small.demand self.now.here.now.place.now Kind.BadEntry (sums.Fits table (id_seen id)) ∷ []) (demands_seen demands.new.items) result }
         ensures good { (marks : Marks) → AreAsked (earlier_of self.now) (demands_seen demands.old.items) marks → AreAsked (earlier_of self.now) (demands_seen demands.new.items) marks }
         ensures fits { OnOk result (cutting.is_id_in (size_of (options_of self.now.here.now) table) (id_seen id) ≡ true) }
     {
@@ -144,8 +144,8 @@ impl Asker<'_, '_> {
     ) -> Result<(), AllocError>
         requires good { AreAsked (earlier_of self.now) (demands_seen demands.old.items) marks.old }
         requires made { cutting.IsMadeReference table (id_seen id) }
-        ensures asks { OnOk result (Asks (options_of self.now.here.now) (earlier_of self.now) self.now.here.now.place (demands_seen demands.old.items)
-            (small.demand self.now.here.now.place Kind.NoEntry (sums.Filled table (id_seen id)) ∷ []) (demands_seen demands.new.items) (Ok tt)) }
+        ensures asks { OnOk result (Asks (options_of self.now.here.now) (earlier_of self.now) self.now.here.now.place.now (demands_seen demands.old.items)
+            (small.demand self.now.here.now.place.now Kind.NoEntry (sums.Filled table (id_seen id)) ∷ []) (demands_seen demands.new.items) (Ok tt)) }
         ensures good { AreAsked (earlier_of self.now) (demands_seen demands.new.items) marks.new }
     {
         self.push(demands, Kind::NoEntry, Need::Filled(table, id))?;
@@ -172,8 +172,8 @@ impl Asker<'_, '_> {
     ) -> Result<(), Stop>
         requires good { AreAsked (earlier_of self.now) (demands_seen demands.old.items) marks.old }
         requires made { cutting.IsMadeReference table (id_seen id) }
-        ensures asks { Asks (options_of self.now.here.now) (earlier_of self.now) self.now.here.now.place (demands_seen demands.old.items)
-            (small.demand self.now.here.now.place Kind.NoEntry (sums.Filled table (id_seen id)) ∷ []) (demands_seen demands.new.items) result }
+        ensures asks { Asks (options_of self.now.here.now) (earlier_of self.now) self.now.here.now.place.now (demands_seen demands.old.items)
+            (small.demand self.now.here.now.place.now Kind.NoEntry (sums.Filled table (id_seen id)) ∷ []) (demands_seen demands.new.items) result }
         ensures good { AreAsked (earlier_of self.now) (demands_seen demands.new.items) marks.new }
         ensures fits { OnOk result (cutting.is_reference_in (options_of self.now.here.now) table (id_seen id) ≡ true) }
     {
@@ -199,8 +199,8 @@ impl Asker<'_, '_> {
         requires here { IsHere self.now.here.now }
         requires good { AreAsked (earlier_of self.now) (demands_seen demands.old.items) marks.old }
         requires last { HasLast last.old }
-        ensures asks { Asks (options_of self.now.here.now) (earlier_of self.now) self.now.here.now.place (demands_seen demands.old.items)
-            (small.term_demands self.now.here.now.place (words_seen last.old) (written.Iri (rows.ids_seen iri))) (demands_seen demands.new.items) result }
+        ensures asks { Asks (options_of self.now.here.now) (earlier_of self.now) self.now.here.now.place.now (demands_seen demands.old.items)
+            (small.term_demands self.now.here.now.place.now (words_seen last.old) (written.Iri (rows.ids_seen iri))) (demands_seen demands.new.items) result }
         ensures ids { OnOk result (words_seen last.new ≡ refs_after (written.Iri (rows.ids_seen iri)) (words_seen last.old)) }
         ensures good { AreAsked (earlier_of self.now) (demands_seen demands.new.items) marks.new }
         ensures last { OnOk result (HasLast last.new) }
@@ -218,8 +218,8 @@ impl Asker<'_, '_> {
         requires here { IsHere self.now.here.now }
         requires good { AreAsked (earlier_of self.now) (demands_seen demands.old.items) marks.old }
         requires inside { rows.HasTail self.now.here.now.bytes.now tail }
-        ensures asks { Asks (options_of self.now.here.now) (earlier_of self.now) self.now.here.now.place (demands_seen demands.old.items)
-            (small.tail_demands self.now.here.now.place (rows.ending_seen self.now.here.now.bytes.now tail)) (demands_seen demands.new.items) result }
+        ensures asks { Asks (options_of self.now.here.now) (earlier_of self.now) self.now.here.now.place.now (demands_seen demands.old.items)
+            (small.tail_demands self.now.here.now.place.now (rows.ending_seen self.now.here.now.bytes.now tail)) (demands_seen demands.new.items) result }
         ensures good { AreAsked (earlier_of self.now) (demands_seen demands.new.items) marks.new }
     {
         match tail {
@@ -252,19 +252,19 @@ impl Asker<'_, '_> {
         requires inside { rows.HasTerm self.now.here.now.bytes.now raw.now }
         requires last { HasLast last.old }
         requires leaf { IsLeaf raw.now }
-        ensures asks { Asks (options_of self.now.here.now) (earlier_of self.now) self.now.here.now.place (demands_seen demands.old.items)
-            (small.term_demands self.now.here.now.place (words_seen last.old) (rows.term_seen self.now.here.now.bytes.now raw.now)) (demands_seen demands.new.items) result }
+        ensures asks { Asks (options_of self.now.here.now) (earlier_of self.now) self.now.here.now.place.now (demands_seen demands.old.items)
+            (small.term_demands self.now.here.now.place.now (words_seen last.old) (rows.term_seen self.now.here.now.bytes.now raw.now)) (demands_seen demands.new.items) result }
         ensures ids { OnOk result (words_seen last.new ≡ refs_after (rows.term_seen self.now.here.now.bytes.now raw.now) (words_seen last.old)) }
         ensures good { AreAsked (earlier_of self.now) (demands_seen demands.new.items) marks.new }
         ensures last { OnOk result (HasLast last.new) }
     {
-        match raw {
-            RawTerm::Iri(iri) => self.iri(demands, marks, last, *iri),
-            RawTerm::Bnode(_) => Ok(()),
-            RawTerm::Literal { lex: _, tail } => self.tail(demands, marks, *tail),
-            RawTerm::Default => Ok(()),
-            RawTerm::Triple(_) => unreachable!(),
+        if let RawTerm::Iri(iri) = raw {
+            return self.iri(demands, marks, last, *iri);
         }
+        if let RawTerm::Literal { lex: _, tail } = raw {
+            return self.tail(demands, marks, *tail);
+        }
+        Ok(())
     }
 
     /// A term that must be set, with the last ids after it.
@@ -281,8 +281,8 @@ impl Asker<'_, '_> {
         requires good { AreAsked (earlier_of self.now) (demands_seen demands.old.items) marks.old }
         requires inside { rows.HasTerm self.now.here.now.bytes.now raw.now }
         requires last { HasLast last.old }
-        ensures asks { Asks (options_of self.now.here.now) (earlier_of self.now) self.now.here.now.place (demands_seen demands.old.items)
-            (small.term_demands self.now.here.now.place (words_seen last.old) (checked (options_of self.now.here.now) (position_of x) (rows.term_seen self.now.here.now.bytes.now raw.now))) (demands_seen demands.new.items) result }
+        ensures asks { Asks (options_of self.now.here.now) (earlier_of self.now) self.now.here.now.place.now (demands_seen demands.old.items)
+            (small.term_demands self.now.here.now.place.now (words_seen last.old) (checked (options_of self.now.here.now) (position_of x) (rows.term_seen self.now.here.now.bytes.now raw.now))) (demands_seen demands.new.items) result }
         ensures same { OnOk result (checked (options_of self.now.here.now) (position_of x) (rows.term_seen self.now.here.now.bytes.now raw.now) ≡ rows.term_seen self.now.here.now.bytes.now raw.now) }
         ensures ids { OnOk result (words_seen last.new ≡ refs_after (rows.term_seen self.now.here.now.bytes.now raw.now) (words_seen last.old)) }
         ensures good { AreAsked (earlier_of self.now) (demands_seen demands.new.items) marks.new }
@@ -313,8 +313,8 @@ impl Asker<'_, '_> {
         requires good { AreAsked (earlier_of self.now) (demands_seen demands.old.items) marks.old }
         requires inside { rows.HasTerm self.now.here.now.bytes.now raw.now }
         requires last { HasLast last.old }
-        ensures asks { Asks (options_of self.now.here.now) (earlier_of self.now) self.now.here.now.place (demands_seen demands.old.items)
-            (small.term_demands self.now.here.now.place (words_seen last.old) (checked (options_of self.now.here.now) (position_of x) (rows.term_seen self.now.here.now.bytes.now raw.now))) (demands_seen demands.new.items) result }
+        ensures asks { Asks (options_of self.now.here.now) (earlier_of self.now) self.now.here.now.place.now (demands_seen demands.old.items)
+            (small.term_demands self.now.here.now.place.now (words_seen last.old) (checked (options_of self.now.here.now) (position_of x) (rows.term_seen self.now.here.now.bytes.now raw.now))) (demands_seen demands.new.items) result }
         ensures same { OnOk result (checked (options_of self.now.here.now) (position_of x) (rows.term_seen self.now.here.now.bytes.now raw.now) ≡ rows.term_seen self.now.here.now.bytes.now raw.now) }
         ensures ids { OnOk result (words_seen last.new ≡ refs_after (rows.term_seen self.now.here.now.bytes.now raw.now) (words_seen last.old)) }
         ensures good { AreAsked (earlier_of self.now) (demands_seen demands.new.items) marks.new }
@@ -345,8 +345,8 @@ impl Asker<'_, '_> {
         requires good { AreAsked (earlier_of self.now) (demands_seen demands.old.items) marks.old }
         requires inside { rows.HasTriple self.now.here.now.bytes.now terms.now }
         requires last { HasLast last.old }
-        ensures asks { Asks (options_of self.now.here.now) (earlier_of self.now) self.now.here.now.place (demands_seen demands.old.items)
-            (small.term_demands self.now.here.now.place (words_seen last.old) (inner_under self.now.here.now.options.now.strict (options_of self.now.here.now) (rows.nested_seen self.now.here.now.bytes.now terms.now))) (demands_seen demands.new.items) result }
+        ensures asks { Asks (options_of self.now.here.now) (earlier_of self.now) self.now.here.now.place.now (demands_seen demands.old.items)
+            (small.term_demands self.now.here.now.place.now (words_seen last.old) (inner_under self.now.here.now.options.now.strict (options_of self.now.here.now) (rows.nested_seen self.now.here.now.bytes.now terms.now))) (demands_seen demands.new.items) result }
         ensures same { OnOk result (inner_under self.now.here.now.options.now.strict (options_of self.now.here.now) (rows.nested_seen self.now.here.now.bytes.now terms.now) ≡ rows.nested_seen self.now.here.now.bytes.now terms.now) }
         ensures ids { OnOk result (words_seen last.new ≡ refs_after (rows.nested_seen self.now.here.now.bytes.now terms.now) (words_seen last.old)) }
         ensures good { AreAsked (earlier_of self.now) (demands_seen demands.new.items) marks.new }
@@ -371,8 +371,8 @@ impl Asker<'_, '_> {
         requires good { AreAsked (earlier_of self.now) (demands_seen demands.old.items) marks.old }
         requires inside { rows.HasPosition self.now.here.now.bytes.now raw.now }
         requires last { HasLast last.old }
-        ensures asks { Asks (options_of self.now.here.now) (earlier_of self.now) self.now.here.now.place (demands_seen demands.old.items)
-            (small.term_demands self.now.here.now.place (words_seen last.old) (checked (options_of self.now.here.now) (position_of x) (rows.position_seen self.now.here.now.bytes.now raw.now))) (demands_seen demands.new.items) result }
+        ensures asks { Asks (options_of self.now.here.now) (earlier_of self.now) self.now.here.now.place.now (demands_seen demands.old.items)
+            (small.term_demands self.now.here.now.place.now (words_seen last.old) (checked (options_of self.now.here.now) (position_of x) (rows.position_seen self.now.here.now.bytes.now raw.now))) (demands_seen demands.new.items) result }
         ensures same { OnOk result (checked (options_of self.now.here.now) (position_of x) (rows.position_seen self.now.here.now.bytes.now raw.now) ≡ rows.position_seen self.now.here.now.bytes.now raw.now) }
         ensures ids { OnOk result (words_seen last.new ≡ refs_after (rows.position_seen self.now.here.now.bytes.now raw.now) (words_seen last.old)) }
         ensures good { AreAsked (earlier_of self.now) (demands_seen demands.new.items) marks.new }

@@ -24,7 +24,7 @@ pub enum Need {
 /// A need after so many rows of the run, and the fault that it is where it isn't met.
 #[derive(Clone, Copy, Debug, PartialEq, Eq)]
 pub struct Demand {
-    pub moment: u32,
     pub fault: Fault,
     pub need: Need,
+    pub moment: u32,
 }

@@ -53,7 +53,7 @@ impl<'a> Growing<'a> {
         requires fit { IsFit here.now.bytes.now self.old marks.old }
         requires rows { self.old.rows < 2 ^ 31 }
         requires inside { IsInside here.now.bytes.now text }
-        ensures grows { Grows (options_of here.now) here.now.place (small.small_step (small.Entry table written (text_of here.now.bytes.now text)))
+        ensures grows { Grows (options_of here.now) here.now.place.now (small.small_step (small.Entry table written (text_of here.now.bytes.now text)))
             (growing_seen here.now.bytes.now self.old) (growing_seen here.now.bytes.now self.new) result }
         ensures fit { IsFit here.now.bytes.now self.new marks.new }
         ensures rows { self.new.rows ≤ self.old.rows + 1 }

@@ -2,7 +2,6 @@
 ghost use Rattle.std.specs.Prelude.{◌≡◌, ◌+◌, ◌<◌, ◌^◌, ℕ, List, [], Ok, OnOk, false};
 ghost use Rattle.jl_rows.specs.Seen as rows;
 ghost use Rattle.jl_rows.specs.Values as values;
-ghost use Rattle.jl_state.specs.Positions.{position_of};
 ghost use Rattle.jl_sym_laws.specs.Cutting.{IsMade};
 ghost use Rattle.jl_sym_laws.specs.SmallSteps as small;
 ghost use Rattle.jl_sym_laws.specs.Summaries as sums;
@@ -12,7 +11,6 @@ ghost use Rattle.jl_sym.specs.declared.marks.Marks.{Marks};
 ghost use Rattle.jl_sym.specs.Growth.{with_never, IsFit};
 ghost use Rattle.jl_sym.specs.Held.{HasGrowing, HasKept, HasLeft, HasSummary};
 ghost use Rattle.jl_sym.specs.Marking.{is_marked};
-ghost use Rattle.jl_sym.specs.RowSteps.{puts};
 ghost use Rattle.jl_sym.specs.Seen.{left_seen, last_seen, growing_seen, summary_seen};
 
 use crate::asker::{Asker, Here};
@@ -23,7 +21,7 @@ use crate::relative_id::RelativeId;
 use crate::summary::{Left, Summary, Write};
 use jl_base::{Fault, Kind};
 use jl_rows::{RawIri, RawTerm};
-use jl_state::{Position, Stop};
+use jl_state::Stop;
 use std::alloc::{AllocError, Global};
 
 /// What the rows so far leave of a thing that is kept: a term stays where its row lies.
@@ -110,121 +108,11 @@ impl<'a> Growing<'a> {
         }
     }
 
-    /// The subject of a statement.
-    #[inline(always)]
-    pub fn put_subject(
-        &mut self,
-        here: &Here<'a>,
-        marks: &mut Marks,
-        raw: &'a Option<RawTerm>,
-    ) -> Result<(), Stop>
-        requires here { IsHere here.now }
-        requires fit { IsFit here.now.bytes.now self.old marks.old }
-        requires inside { rows.HasPosition here.now.bytes.now raw.now }
-        ensures grows { Grows (options_of here.now) here.now.place (puts (options_of here.now) values.Subject (rows.position_seen here.now.bytes.now raw.now)) (growing_seen here.now.bytes.now self.old) (growing_seen here.now.bytes.now self.new) result }
-        ensures fit { IsFit here.now.bytes.now self.new marks.new }
-        ensures rows { self.new.rows ≡ self.old.rows }
-    {
-        let asker = Asker {
-            here,
-            moment: self.rows,
-            writes: &self.writes,
-        };
-        let (demands, ids) = (&mut self.demands, &mut self.ids);
-        asker.place(
-            demands,
-            marks,
-            ids,
-            Position::Subject,
-            &mut self.subject,
-            raw,
-        )
-    }
-
-    /// Its predicate.
-    #[inline(always)]
-    pub fn put_predicate(
-        &mut self,
-        here: &Here<'a>,
-        marks: &mut Marks,
-        raw: &'a Option<RawTerm>,
-    ) -> Result<(), Stop>
-        requires here { IsHere here.now }
-        requires fit { IsFit here.now.bytes.now self.old marks.old }
-        requires inside { rows.HasPosition here.now.bytes.now raw.now }
-        ensures grows { Grows (options_of here.now) here.now.place (puts (options_of here.now) values.Predicate (rows.position_seen here.now.bytes.now raw.now)) (growing_seen here.now.bytes.now self.old) (growing_seen here.now.bytes.now self.new) result }
-        ensures fit { IsFit here.now.bytes.now self.new marks.new }
-        ensures rows { self.new.rows ≡ self.old.rows }
-    {
-        let asker = Asker {
-            here,
-            moment: self.rows,
-            writes: &self.writes,
-        };
-        let (demands, ids) = (&mut self.demands, &mut self.ids);
-        asker.place(
-            demands,
-            marks,
-            ids,
-            Position::Predicate,
-            &mut self.predicate,
-            raw,
-        )
-    }
-
-    /// Its object.
-    #[inline(always)]
-    pub fn put_object(
-        &mut self,
-        here: &Here<'a>,
-        marks: &mut Marks,
-        raw: &'a Option<RawTerm>,
-    ) -> Result<(), Stop>
-        requires here { IsHere here.now }
-        requires fit { IsFit here.now.bytes.now self.old marks.old }
-        requires inside { rows.HasPosition here.now.bytes.now raw.now }
-        ensures grows { Grows (options_of here.now) here.now.place (puts (options_of here.now) values.Object (rows.position_seen here.now.bytes.now raw.now)) (growing_seen here.now.bytes.now self.old) (growing_seen here.now.bytes.now self.new) result }
-        ensures fit { IsFit here.now.bytes.now self.new marks.new }
-        ensures rows { self.new.rows ≡ self.old.rows }
-    {
-        let asker = Asker {
-            here,
-            moment: self.rows,
-            writes: &self.writes,
-        };
-        let (demands, ids) = (&mut self.demands, &mut self.ids);
-        asker.place(demands, marks, ids, Position::Object, &mut self.object, raw)
-    }
-
-    /// The graph of a quad.
-    #[inline(always)]
-    pub fn put_graph(
-        &mut self,
-        here: &Here<'a>,
-        marks: &mut Marks,
-        raw: &'a Option<RawTerm>,
-    ) -> Result<(), Stop>
-        requires here { IsHere here.now }
-        requires fit { IsFit here.now.bytes.now self.old marks.old }
-        requires inside { rows.HasPosition here.now.bytes.now raw.now }
-        ensures grows { Grows (options_of here.now) here.now.place (puts (options_of here.now) values.Graph (rows.position_seen here.now.bytes.now raw.now)) (growing_seen here.now.bytes.now self.old) (growing_seen here.now.bytes.now self.new) result }
-        ensures fit { IsFit here.now.bytes.now self.new marks.new }
-        ensures rows { self.new.rows ≡ self.old.rows }
-    {
-        let asker = Asker {
-            here,
-            moment: self.rows,
-            writes: &self.writes,
-        };
-        let (demands, ids) = (&mut self.demands, &mut self.ids);
-        asker.place(demands, marks, ids, Position::Graph, &mut self.graph, raw)
-    }
-
     /// An IRI that is read for its ids.
     pub fn reads(&mut self, here: &Here<'a>, marks: &mut Marks, iri: RawIri) -> Result<(), Stop>
         requires here { IsHere here.now }
         requires fit { IsFit here.now.bytes.now self.old marks.old }
-        ensures grows { Grows (options_of here.now) here.now.place (small.small_step (small.Reads (rows.ids_seen iri)))
+        ensures grows { Grows (options_of here.now) here.now.place.now (small.small_step (small.Reads (rows.ids_seen iri)))
             (growing_seen here.now.bytes.now self.old) (growing_seen here.now.bytes.now self.new) result }
         ensures fit { IsFit here.now.bytes.now self.new marks.new }
         ensures rows { self.new.rows ≡ self.old.rows }
@@ -244,7 +132,7 @@ impl<'a> Growing<'a> {
     pub fn in_graph(&mut self, here: &Here<'a>, marks: &mut Marks) -> Result<(), Stop>
         requires here { IsHere here.now }
         requires fit { IsFit here.now.bytes.now self.old marks.old }
-        ensures grows { Grows (options_of here.now) here.now.place (small.small_step small.IsInGraph)
+        ensures grows { Grows (options_of here.now) here.now.place.now (small.small_step small.IsInGraph)
             (growing_seen here.now.bytes.now self.old) (growing_seen here.now.bytes.now self.new) result }
         ensures fit { IsFit here.now.bytes.now self.new marks.new }
         ensures rows { self.new.rows ≡ self.old.rows }
@@ -273,7 +161,7 @@ impl<'a> Growing<'a> {
         requires here { IsHere here.now }
         requires fit { IsFit here.now.bytes.now self.old marks.old }
         requires inside { rows.HasPosition here.now.bytes.now raw.now }
-        ensures grows { Grows (options_of here.now) here.now.place (small.small_step (small.Opens (checked (options_of here.now) values.Graph (rows.position_seen here.now.bytes.now raw.now))))
+        ensures grows { Grows (options_of here.now) here.now.place.now (small.small_step (small.Opens (checked (options_of here.now) values.Graph (rows.position_seen here.now.bytes.now raw.now))))
             (growing_seen here.now.bytes.now self.old) (growing_seen here.now.bytes.now self.new) result }
         ensures fit { IsFit here.now.bytes.now self.new marks.new }
         ensures rows { self.new.rows ≡ self.old.rows }
@@ -296,7 +184,7 @@ impl<'a> Growing<'a> {
     pub fn closes(&mut self, here: &Here<'a>, marks: &mut Marks) -> Result<(), Stop>
         requires here { IsHere here.now }
         requires fit { IsFit here.now.bytes.now self.old marks.old }
-        ensures grows { Grows (options_of here.now) here.now.place (small.small_step small.Closes)
+        ensures grows { Grows (options_of here.now) here.now.place.now (small.small_step small.Closes)
             (growing_seen here.now.bytes.now self.old) (growing_seen here.now.bytes.now self.new) result }
         ensures fit { IsFit here.now.bytes.now self.new marks.new }
         ensures rows { self.new.rows ≡ self.old.rows }
@@ -322,7 +210,7 @@ impl<'a> Growing<'a> {
     pub fn end_row(&mut self, here: &Here<'a>, marks: &Marks)
         requires fit { IsFit here.now.bytes.now self.old marks.now }
         requires rows { self.old.rows < 2 ^ 31 }
-        ensures grows { Grows (options_of here.now) here.now.place (small.small_step small.Ends) (growing_seen here.now.bytes.now self.old) (growing_seen here.now.bytes.now self.new) (Ok tt) }
+        ensures grows { Grows (options_of here.now) here.now.place.now (small.small_step small.Ends) (growing_seen here.now.bytes.now self.old) (growing_seen here.now.bytes.now self.new) (Ok tt) }
         ensures fit { IsFit here.now.bytes.now self.new marks.now }
         ensures rows { self.new.rows ≡ self.old.rows + 1 }
     {

@@ -35,8 +35,8 @@ impl Asker<'_, '_> {
         left: &Last<'a>,
     ) -> Result<(), Stop>
         requires good { AreAsked (earlier_of self.now) (demands_seen demands.old.items) marks.old }
-        ensures asks { Asks (options_of self.now.here.now) (earlier_of self.now) self.now.here.now.place (demands_seen demands.old.items)
-            (perhaps self.now.here.now.place kind (has_left (kept_seen kept) (last_seen self.now.here.now.bytes.now left.now))) (demands_seen demands.new.items) result }
+        ensures asks { Asks (options_of self.now.here.now) (earlier_of self.now) self.now.here.now.place.now (demands_seen demands.old.items)
+            (perhaps self.now.here.now.place.now kind (has_left (kept_seen kept) (last_seen self.now.here.now.bytes.now left.now))) (demands_seen demands.new.items) result }
         ensures good { AreAsked (earlier_of self.now) (demands_seen demands.new.items) marks.new }
     {
         match left {
@@ -58,8 +58,8 @@ impl Asker<'_, '_> {
         left: &Last<'a>,
     ) -> Result<(), Stop>
         requires good { AreAsked (earlier_of self.now) (demands_seen demands.old.items) marks.old }
-        ensures asks { Asks (options_of self.now.here.now) (earlier_of self.now) self.now.here.now.place (demands_seen demands.old.items)
-            (perhaps self.now.here.now.place Kind.GraphOpen (lacks_left sums.OpenGraph (last_seen self.now.here.now.bytes.now left.now))) (demands_seen demands.new.items) result }
+        ensures asks { Asks (options_of self.now.here.now) (earlier_of self.now) self.now.here.now.place.now (demands_seen demands.old.items)
+            (perhaps self.now.here.now.place.now Kind.GraphOpen (lacks_left sums.OpenGraph (last_seen self.now.here.now.bytes.now left.now))) (demands_seen demands.new.items) result }
         ensures good { AreAsked (earlier_of self.now) (demands_seen demands.new.items) marks.new }
     {
         match left {
@@ -89,8 +89,8 @@ impl Asker<'_, '_> {
         requires good { AreAsked (earlier_of self.now) (demands_seen demands.old.items) marks.old }
         requires inside { rows.HasTerm self.now.here.now.bytes.now raw.now }
         requires last { HasLast last.old }
-        ensures asks { Asks (options_of self.now.here.now) (earlier_of self.now) self.now.here.now.place (demands_seen demands.old.items)
-            (small.term_demands self.now.here.now.place (words_seen last.old) (checked (options_of self.now.here.now) (position_of x) (rows.term_seen self.now.here.now.bytes.now raw.now))) (demands_seen demands.new.items) result }
+        ensures asks { Asks (options_of self.now.here.now) (earlier_of self.now) self.now.here.now.place.now (demands_seen demands.old.items)
+            (small.term_demands self.now.here.now.place.now (words_seen last.old) (checked (options_of self.now.here.now) (position_of x) (rows.term_seen self.now.here.now.bytes.now raw.now))) (demands_seen demands.new.items) result }
         ensures ids { OnOk result (words_seen last.new ≡ refs_after (checked (options_of self.now.here.now) (position_of x) (rows.term_seen self.now.here.now.bytes.now raw.now)) (words_seen last.old)) }
         ensures left { OnOk result (last_seen self.now.here.now.bytes.now left.new ≡ set_left self.now.moment (words_seen last.old) (checked (options_of self.now.here.now) (position_of x) (rows.term_seen self.now.here.now.bytes.now raw.now))) }
         ensures plain { OnOk result (checked (options_of self.now.here.now) (position_of x) (rows.term_seen self.now.here.now.bytes.now raw.now) ≡ rows.term_seen self.now.here.now.bytes.now raw.now) }
@@ -126,8 +126,8 @@ impl Asker<'_, '_> {
         requires inside { rows.HasPosition self.now.here.now.bytes.now raw.now }
         requires held { HasKept self.now.here.now.bytes.now left.old }
         requires last { HasLast last.old }
-        ensures asks { Asks (options_of self.now.here.now) (earlier_of self.now) self.now.here.now.place (demands_seen demands.old.items)
-            (place_demands self.now.here.now.place (sums.LastAt (position_of x)) (last_seen self.now.here.now.bytes.now left.old) (words_seen last.old) (checked (options_of self.now.here.now) (position_of x) (rows.position_seen self.now.here.now.bytes.now raw.now))) (demands_seen demands.new.items) result }
+        ensures asks { Asks (options_of self.now.here.now) (earlier_of self.now) self.now.here.now.place.now (demands_seen demands.old.items)
+            (place_demands self.now.here.now.place.now (sums.LastAt (position_of x)) (last_seen self.now.here.now.bytes.now left.old) (words_seen last.old) (checked (options_of self.now.here.now) (position_of x) (rows.position_seen self.now.here.now.bytes.now raw.now))) (demands_seen demands.new.items) result }
         ensures ids { OnOk result (words_seen last.new ≡ refs_after (checked (options_of self.now.here.now) (position_of x) (rows.position_seen self.now.here.now.bytes.now raw.now)) (words_seen last.old)) }
         ensures left { OnOk result (last_seen self.now.here.now.bytes.now left.new ≡ laid self.now.moment (words_seen last.old) (checked (options_of self.now.here.now) (position_of x) (rows.position_seen self.now.here.now.bytes.now raw.now)) (last_seen self.now.here.now.bytes.now left.old)) }
         ensures same { OnErr result ((last.new ≡ last.old) × (left.new ≡ left.old)) }
@@ -155,9 +155,9 @@ impl Asker<'_, '_> {
         requires good { AreAsked (earlier_of self.now) (demands_seen demands.old.items) marks.old }
         requires inside { rows.HasPosition self.now.here.now.bytes.now raw.now }
         requires last { HasLast last.old }
-        ensures asks { Asks (options_of self.now.here.now) (earlier_of self.now) self.now.here.now.place (demands_seen demands.old.items)
-            (perhaps self.now.here.now.place Kind.GraphOpen (lacks_left sums.OpenGraph (last_seen self.now.here.now.bytes.now left.old))
-            ++ small.term_demands self.now.here.now.place (words_seen last.old) (checked (options_of self.now.here.now) values.Graph (rows.position_seen self.now.here.now.bytes.now raw.now))) (demands_seen demands.new.items) result }
+        ensures asks { Asks (options_of self.now.here.now) (earlier_of self.now) self.now.here.now.place.now (demands_seen demands.old.items)
+            (perhaps self.now.here.now.place.now Kind.GraphOpen (lacks_left sums.OpenGraph (last_seen self.now.here.now.bytes.now left.old))
+            ++ small.term_demands self.now.here.now.place.now (words_seen last.old) (checked (options_of self.now.here.now) values.Graph (rows.position_seen self.now.here.now.bytes.now raw.now))) (demands_seen demands.new.items) result }
         ensures ids { OnOk result (words_seen last.new ≡ refs_after (checked (options_of self.now.here.now) values.Graph (rows.position_seen self.now.here.now.bytes.now raw.now)) (words_seen last.old)) }
         ensures left { OnOk result (last_seen self.now.here.now.bytes.now left.new ≡ set_left self.now.moment (words_seen last.old) (checked (options_of self.now.here.now) values.Graph (rows.position_seen self.now.here.now.bytes.now raw.now))) }
         ensures same { OnErr result ((last.new ≡ last.old) × (left.new ≡ left.old)) }

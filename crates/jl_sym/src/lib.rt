@@ -14,6 +14,7 @@ mod keeping;
 mod marks;
 mod of_run;
 mod position;
+mod putting;
 mod relative_id;
 mod rows;
 mod steps;

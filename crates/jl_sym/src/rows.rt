@@ -37,12 +37,13 @@ fn is_wrong_row(bytes: &[u8], options: &Options, row: &Row) -> bool
 
 impl<'a> Growing<'a> {
     // A triple outside of graphs.
+    #[inline(always)]
     fn triple(&mut self, here: &Here<'a>, marks: &mut Marks, t: &'a RawTriple) -> Result<(), Stop>
         requires here { IsHere here.now }
         requires fit { IsFit here.now.bytes.now self.old marks.old }
         requires rows { self.old.rows < 2 ^ 31 }
         requires inside { rows.HasTriple here.now.bytes.now t.now }
-        ensures grows { Grows (options_of here.now) here.now.place (three_on (options_of here.now) (rows.position_seen here.now.bytes.now t.now.s) (rows.position_seen here.now.bytes.now t.now.p) (rows.position_seen here.now.bytes.now t.now.o))
+        ensures grows { Grows (options_of here.now) here.now.place.now (three_on (options_of here.now) (rows.position_seen here.now.bytes.now t.now.s) (rows.position_seen here.now.bytes.now t.now.p) (rows.position_seen here.now.bytes.now t.now.o))
             (growing_seen here.now.bytes.now self.old) (growing_seen here.now.bytes.now self.new) result }
         ensures fit { IsFit here.now.bytes.now self.new marks.new }
         ensures rows { self.new.rows ≤ self.old.rows + 1 }
@@ -65,7 +66,7 @@ impl<'a> Growing<'a> {
         requires fit { IsFit here.now.bytes.now self.old marks.old }
         requires rows { self.old.rows < 2 ^ 31 }
         requires inside { rows.HasTriple here.now.bytes.now t.now }
-        ensures grows { Grows (options_of here.now) here.now.place (inside_on (options_of here.now) (rows.position_seen here.now.bytes.now t.now.s) (rows.position_seen here.now.bytes.now t.now.p) (rows.position_seen here.now.bytes.now t.now.o))
+        ensures grows { Grows (options_of here.now) here.now.place.now (inside_on (options_of here.now) (rows.position_seen here.now.bytes.now t.now.s) (rows.position_seen here.now.bytes.now t.now.p) (rows.position_seen here.now.bytes.now t.now.o))
             (growing_seen here.now.bytes.now self.old) (growing_seen here.now.bytes.now self.new) result }
         ensures fit { IsFit here.now.bytes.now self.new marks.new }
         ensures rows { self.new.rows ≤ self.old.rows + 1 }
@@ -79,7 +80,7 @@ impl<'a> Growing<'a> {
         requires fit { IsFit here.now.bytes.now self.old marks.old }
         requires rows { self.old.rows < 2 ^ 31 }
         requires inside { rows.HasRow here.now.bytes.now (Row.Quad t.now) }
-        ensures grows { Grows (options_of here.now) here.now.place (four_on (options_of here.now) (rows.position_seen here.now.bytes.now t.now.s) (rows.position_seen here.now.bytes.now t.now.p) (rows.position_seen here.now.bytes.now t.now.o) (rows.position_seen here.now.bytes.now t.now.g))
+        ensures grows { Grows (options_of here.now) here.now.place.now (four_on (options_of here.now) (rows.position_seen here.now.bytes.now t.now.s) (rows.position_seen here.now.bytes.now t.now.p) (rows.position_seen here.now.bytes.now t.now.o) (rows.position_seen here.now.bytes.now t.now.g))
             (growing_seen here.now.bytes.now self.old) (growing_seen here.now.bytes.now self.new) result }
         ensures fit { IsFit here.now.bytes.now self.new marks.new }
         ensures rows { self.new.rows ≤ self.old.rows + 1 }
@@ -102,7 +103,7 @@ impl<'a> Growing<'a> {
         requires fit { IsFit here.now.bytes.now self.old marks.old }
         requires rows { self.old.rows < 2 ^ 31 }
         requires inside { rows.HasPosition here.now.bytes.now g.now }
-        ensures grows { Grows (options_of here.now) here.now.place (start_on (options_of here.now) (rows.position_seen here.now.bytes.now g.now))
+        ensures grows { Grows (options_of here.now) here.now.place.now (start_on (options_of here.now) (rows.position_seen here.now.bytes.now g.now))
             (growing_seen here.now.bytes.now self.old) (growing_seen here.now.bytes.now self.new) result }
         ensures fit { IsFit here.now.bytes.now self.new marks.new }
         ensures rows { self.new.rows ≤ self.old.rows + 1 }
@@ -116,7 +117,7 @@ impl<'a> Growing<'a> {
         requires here { IsHere here.now }
         requires fit { IsFit here.now.bytes.now self.old marks.old }
         requires rows { self.old.rows < 2 ^ 31 }
-        ensures grows { Grows (options_of here.now) here.now.place end_on (growing_seen here.now.bytes.now self.old) (growing_seen here.now.bytes.now self.new) result }
+        ensures grows { Grows (options_of here.now) here.now.place.now end_on (growing_seen here.now.bytes.now self.old) (growing_seen here.now.bytes.now self.new) result }
         ensures fit { IsFit here.now.bytes.now self.new marks.new }
         ensures rows { self.new.rows ≤ self.old.rows + 1 }
     {
@@ -135,7 +136,7 @@ impl<'a> Growing<'a> {
         requires here { IsHere here.now }
         requires fit { IsFit here.now.bytes.now self.old marks.old }
         requires rows { self.old.rows < 2 ^ 31 }
-        ensures grows { (name : List ℕ) → Grows (options_of here.now) here.now.place (λ s. state_of (step (options_of here.now) (written.Namespace name (option_map rows.ids_seen iri)) s))
+        ensures grows { (name : List ℕ) → Grows (options_of here.now) here.now.place.now (λ s. state_of (step (options_of here.now) (written.Namespace name (option_map rows.ids_seen iri)) s))
             (growing_seen here.now.bytes.now self.old) (growing_seen here.now.bytes.now self.new) result }
         ensures fit { IsFit here.now.bytes.now self.new marks.new }
         ensures rows { self.new.rows ≤ self.old.rows + 1 }
@@ -157,7 +158,7 @@ impl<'a> Growing<'a> {
         requires fit { IsFit here.now.bytes.now self.old marks.now }
         requires rows { self.old.rows < 2 ^ 31 }
         requires inside { IsInside here.now.bytes.now found.now.stream_name }
-        ensures grows { Grows (options_of here.now) here.now.place (λ s. state_of (step (options_of here.now) (written.Options (rows.options_seen here.now.bytes.now found.now)) s))
+        ensures grows { Grows (options_of here.now) here.now.place.now (λ s. state_of (step (options_of here.now) (written.Options (rows.options_seen here.now.bytes.now found.now)) s))
             (growing_seen here.now.bytes.now self.old) (growing_seen here.now.bytes.now self.new) result }
         ensures fit { IsFit here.now.bytes.now self.new marks.now }
         ensures rows { self.new.rows ≤ self.old.rows + 1 }
@@ -175,7 +176,7 @@ impl<'a> Growing<'a> {
         requires fit { IsFit here.now.bytes.now self.old marks.old }
         requires rows { self.old.rows < 2 ^ 31 }
         requires inside { rows.HasRow here.now.bytes.now row.now }
-        ensures grows { Grows (options_of here.now) here.now.place (λ s. state_of (step (options_of here.now) (rows.row_seen here.now.bytes.now row.now) s))
+        ensures grows { Grows (options_of here.now) here.now.place.now (λ s. state_of (step (options_of here.now) (rows.row_seen here.now.bytes.now row.now) s))
             (growing_seen here.now.bytes.now self.old) (growing_seen here.now.bytes.now self.new) result }
         ensures fit { IsFit here.now.bytes.now self.new marks.new }
         ensures rows { self.new.rows ≤ self.old.rows + 1 }

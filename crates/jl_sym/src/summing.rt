@@ -45,7 +45,7 @@ pub fn summarise_tape<'a>(
         let here = Here {
             bytes,
             options,
-            place: placed.place,
+            place: &placed.place,
         };
         match growing.row(&here, marks, &placed.row) {
             Ok(()) => {}

@@ -16,7 +16,7 @@ use Rattle.jl_sym.proofs.asker.Asker.fits.Goals as goal
 pub returns-then-not-is_entry-clause-asks : goal.returns-then-not-is_entry-clause-asks
 returns-then-not-is_entry-clause-asks c =
     let here = c.args.self.now.here.now in
-    asks_never (options_of here) (earlier_of c.args.self.now) here.place (demands_seen c.args.demands.now.items) BadEntry (Need.Fits c.args.table (id_seen c.args.id)) c.requires.made (sym c.if-not-is_entry.ensures)
+    asks_never (options_of here) (earlier_of c.args.self.now) here.place.now (demands_seen c.args.demands.now.items) BadEntry (Need.Fits c.args.table (id_seen c.args.id)) c.requires.made (sym c.if-not-is_entry.ensures)
 
 pub returns-then-not-is_entry-clause-good : goal.returns-then-not-is_entry-clause-good
 returns-then-not-is_entry-clause-good c = λ marks asked. asked
@@ -28,8 +28,8 @@ returns-in-Given-clause-asks c =
     let table = c.args.table in
     let ds = demands_seen c.args.demands.now.items in
     let known = sym (ap (λ (i : RelativeId). is_id_in (size_of o table) (id_seen i)) c.in-Given.is) ∙ sym c.if-not-is_entry.ensures in
-    subst (λ (i : RelativeId). Asks o (earlier_of c.args.self.now) here.place ds (demand here.place BadEntry (Need.Fits table (id_seen i)) ∷ []) ds (Ok tt)) (sym c.in-Given.is)
-    (asks_met o (earlier_of c.args.self.now) here.place ds BadEntry table c.in-Given.field-0 known)
+    subst (λ (i : RelativeId). Asks o (earlier_of c.args.self.now) here.place.now ds (demand here.place.now BadEntry (Need.Fits table (id_seen i)) ∷ []) ds (Ok tt)) (sym c.in-Given.is)
+    (asks_met o (earlier_of c.args.self.now) here.place.now ds BadEntry table c.in-Given.field-0 known)
 
 pub returns-in-Given-clause-good : goal.returns-in-Given-clause-good
 returns-in-Given-clause-good c = λ marks asked. asked

@@ -21,8 +21,8 @@ returns-in_err-lacks_graph-clause-asks c =
     let here = c.args.self.now.here.now in
     let o = options_of here in
     rw (q.1, q.2)
-    (asks_stopped o (earlier_of c.args.self.now) here.place (demands_seen c.args.demands.now.items) (perhaps here.place GraphOpen (lacks_left Kept.OpenGraph (last_seen here.bytes.now c.args.left.now)))
-    (term_demands here.place (words_seen c.args.last.now) (checked o Position.Graph (position_seen here.bytes.now c.args.raw.now))) (demands_seen c.lacks_graph.new.demands.items) c.in_err-lacks_graph.field-0.0 c.in_err-lacks_graph.ensures.asks)
+    (asks_stopped o (earlier_of c.args.self.now) here.place.now (demands_seen c.args.demands.now.items) (perhaps here.place.now GraphOpen (lacks_left Kept.OpenGraph (last_seen here.bytes.now c.args.left.now)))
+    (term_demands here.place.now (words_seen c.args.last.now) (checked o Position.Graph (position_seen here.bytes.now c.args.raw.now))) (demands_seen c.lacks_graph.new.demands.items) c.in_err-lacks_graph.field-0.0 c.in_err-lacks_graph.ensures.asks)
 
 pub returns-in_default-clause-asks : goal.returns-in_default-clause-asks
 returns-in_default-clause-asks c =
@@ -30,10 +30,10 @@ returns-in_default-clause-asks c =
     let o = options_of here in
     let asked = checked o Position.Graph (position_seen here.bytes.now c.args.raw.now) in
     let none : asked ≡ Term.Unset = ap (λ (r : Option RawTerm). checked o Position.Graph (position_seen here.bytes.now r)) c.in_default.is ∙ unset_checked o Position.Graph in
-    asks_then o (earlier_of c.args.self.now) here.place (demands_seen c.args.demands.now.items) (perhaps here.place GraphOpen (lacks_left Kept.OpenGraph (last_seen here.bytes.now c.args.left.now))) (demands_seen c.lacks_graph.new.demands.items)
-    (term_demands here.place (words_seen c.args.last.now) asked) (demands_seen c.lacks_graph.new.demands.items) (Err (stops.Fault NoTerm)) c.in_ok-lacks_graph.ensures.asks
-    (asks_as o (earlier_of c.args.self.now) here.place (demands_seen c.lacks_graph.new.demands.items) (words_seen c.args.last.now) asked Term.Unset (demands_seen c.lacks_graph.new.demands.items) (Err (stops.Fault NoTerm)) none
-    (asks_refused o (earlier_of c.args.self.now) here.place (demands_seen c.lacks_graph.new.demands.items) NoTerm))
+    asks_then o (earlier_of c.args.self.now) here.place.now (demands_seen c.args.demands.now.items) (perhaps here.place.now GraphOpen (lacks_left Kept.OpenGraph (last_seen here.bytes.now c.args.left.now))) (demands_seen c.lacks_graph.new.demands.items)
+    (term_demands here.place.now (words_seen c.args.last.now) asked) (demands_seen c.lacks_graph.new.demands.items) (Err (stops.Fault NoTerm)) c.in_ok-lacks_graph.ensures.asks
+    (asks_as o (earlier_of c.args.self.now) here.place.now (demands_seen c.lacks_graph.new.demands.items) (words_seen c.args.last.now) asked Term.Unset (demands_seen c.lacks_graph.new.demands.items) (Err (stops.Fault NoTerm)) none
+    (asks_refused o (earlier_of c.args.self.now) here.place.now (demands_seen c.lacks_graph.new.demands.items) NoTerm))
 
 pub returns-clause-asks : goal.returns-clause-asks
 returns-clause-asks c =
@@ -41,7 +41,7 @@ returns-clause-asks c =
     let o = options_of here in
     let asked = checked o Position.Graph (position_seen here.bytes.now c.args.raw.now) in
     let some : asked ≡ checked o Position.Graph (term_seen here.bytes.now c.in-Some.raw) = ap (λ (r : Option RawTerm). checked o Position.Graph (position_seen here.bytes.now r)) c.in-Some.is in
-    asks_then o (earlier_of c.args.self.now) here.place (demands_seen c.args.demands.now.items) (perhaps here.place GraphOpen (lacks_left Kept.OpenGraph (last_seen here.bytes.now c.args.left.now))) (demands_seen c.lacks_graph.new.demands.items)
-    (term_demands here.place (words_seen c.args.last.now) asked) (demands_seen c.set.new.demands.items) c.set.result c.in_ok-lacks_graph.ensures.asks
-    (asks_as o (earlier_of c.args.self.now) here.place (demands_seen c.lacks_graph.new.demands.items) (words_seen c.args.last.now) asked (checked o Position.Graph (term_seen here.bytes.now c.in-Some.raw)) (demands_seen c.set.new.demands.items) c.set.result some
+    asks_then o (earlier_of c.args.self.now) here.place.now (demands_seen c.args.demands.now.items) (perhaps here.place.now GraphOpen (lacks_left Kept.OpenGraph (last_seen here.bytes.now c.args.left.now))) (demands_seen c.lacks_graph.new.demands.items)
+    (term_demands here.place.now (words_seen c.args.last.now) asked) (demands_seen c.set.new.demands.items) c.set.result c.in_ok-lacks_graph.ensures.asks
+    (asks_as o (earlier_of c.args.self.now) here.place.now (demands_seen c.lacks_graph.new.demands.items) (words_seen c.args.last.now) asked (checked o Position.Graph (term_seen here.bytes.now c.in-Some.raw)) (demands_seen c.set.new.demands.items) c.set.result some
     c.set.ensures.asks)

@@ -8,7 +8,7 @@ use Rattle.jl_sym.proofs.growing.Growing.end_row.Goals as goal
 pub returns-clause-grows : goal.returns-clause-grows
 returns-clause-grows c =
     let here = c.args.here.now in
-    ends_grows (options_of here) (growing_seen here.bytes.now c.args.self.now) here.place c.requires.fit.made
+    ends_grows (options_of here) (growing_seen here.bytes.now c.args.self.now) here.place.now c.requires.fit.made
 
 pub returns-clause-fit : goal.returns-clause-fit
 returns-clause-fit c = record {

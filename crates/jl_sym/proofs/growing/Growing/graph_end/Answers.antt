@@ -12,4 +12,4 @@ returns-in_err-closes-clause-grows c =
     let here = c.args.here.now in
     let bytes = here.bytes.now in
     rw (q.1, q.2)
-    (grows_stopped (options_of here) here.place (small_step Small.Closes) last_step (growing_seen bytes c.args.self.now) (growing_seen bytes c.closes.new.self) c.in_err-closes.field-0.0 c.in_err-closes.ensures.grows)
+    (grows_stopped (options_of here) here.place.now (small_step Small.Closes) last_step (growing_seen bytes c.args.self.now) (growing_seen bytes c.closes.new.self) c.in_err-closes.field-0.0 c.in_err-closes.ensures.grows)

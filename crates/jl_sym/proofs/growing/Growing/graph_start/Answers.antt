@@ -16,12 +16,12 @@ returns-in_err-opens-clause-grows c =
     let o = options_of here in
     let bytes = here.bytes.now in
     rw (q.1, q.2)
-    (grows_stopped o here.place (small_step (Small.Opens (checked o Position.Graph (position_seen bytes c.args.g.now)))) last_step (growing_seen bytes c.args.self.now) (growing_seen bytes c.opens.new.self) c.in_err-opens.field-0.0 c.in_err-opens.ensures.grows)
+    (grows_stopped o here.place.now (small_step (Small.Opens (checked o Position.Graph (position_seen bytes c.args.g.now)))) last_step (growing_seen bytes c.args.self.now) (growing_seen bytes c.opens.new.self) c.in_err-opens.field-0.0 c.in_err-opens.ensures.grows)
 
 pub returns-clause-grows : goal.returns-clause-grows
 returns-clause-grows c =
     let here = c.args.here.now in
     let o = options_of here in
     let bytes = here.bytes.now in
-    grows_then o here.place (small_step (Small.Opens (checked o Position.Graph (position_seen bytes c.args.g.now)))) last_step (growing_seen bytes c.args.self.now) (growing_seen bytes c.opens.new.self) (growing_seen bytes c.end_row.new.self) (Ok tt)
+    grows_then o here.place.now (small_step (Small.Opens (checked o Position.Graph (position_seen bytes c.args.g.now)))) last_step (growing_seen bytes c.args.self.now) (growing_seen bytes c.opens.new.self) (growing_seen bytes c.end_row.new.self) (Ok tt)
     c.in_ok-opens.ensures.grows c.end_row.ensures.grows

@@ -6,4 +6,4 @@ use Rattle.jl_sym.proofs.growing.Growing.in_graph.Goals as goal
 pub returns-clause-grows : goal.returns-clause-grows
 returns-clause-grows c =
     let here = c.args.here.now in
-    in_graph_grows (options_of here) (growing_seen here.bytes.now c.args.self.now) here.place c.requires.fit.made (demands_seen c.has.new.demands.items) c.has.result c.has.ensures.asks c.has.ensures.good.good.within
+    in_graph_grows (options_of here) (growing_seen here.bytes.now c.args.self.now) here.place.now c.requires.fit.made (demands_seen c.has.new.demands.items) c.has.result c.has.ensures.asks c.has.ensures.good.good.within

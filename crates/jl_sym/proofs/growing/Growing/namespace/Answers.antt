@@ -31,9 +31,9 @@ returns-in_err-reads-clause-grows c name =
     let m0 = growing_seen here.bytes.now c.args.self.now in
     let m1 = growing_seen here.bytes.now c.reads.new.self in
     rw (q.1, q.2)
-    (subst (λ (x : Option RawIri). Grows o here.place (λ s. state_of (step o (Row.Namespace name (option_map ids_seen x)) s)) m0 m1 (Err stop)) (sym c.in-Some.is)
-    (grows_ext o here.place (namespace_on i) (λ s. state_of (step o (Row.Namespace name (Some i)) s)) m0 m1 (Err stop) (namespace_is o name i late)
-    (grows_stopped o here.place (small_step (Small.Reads i)) last_step m0 m1 stop c.in_err-reads.ensures.grows)))
+    (subst (λ (x : Option RawIri). Grows o here.place.now (λ s. state_of (step o (Row.Namespace name (option_map ids_seen x)) s)) m0 m1 (Err stop)) (sym c.in-Some.is)
+    (grows_ext o here.place.now (namespace_on i) (λ s. state_of (step o (Row.Namespace name (Some i)) s)) m0 m1 (Err stop) (namespace_is o name i late)
+    (grows_stopped o here.place.now (small_step (Small.Reads i)) last_step m0 m1 stop c.in_err-reads.ensures.grows)))
 
 pub returns-clause-grows : goal.returns-clause-grows
 returns-clause-grows c name =
@@ -47,6 +47,6 @@ returns-clause-grows c name =
     let m0 = growing_seen here.bytes.now c.args.self.now in
     let m1 = growing_seen here.bytes.now c.reads.new.self in
     let m2 = growing_seen here.bytes.now c.end_row.new.self in
-    subst (λ (x : Option RawIri). Grows o here.place (λ s. state_of (step o (Row.Namespace name (option_map ids_seen x)) s)) m0 m2 (Ok tt)) (sym c.in-Some.is)
-    (grows_ext o here.place (namespace_on i) (λ s. state_of (step o (Row.Namespace name (Some i)) s)) m0 m2 (Ok tt) (namespace_is o name i late)
-    (grows_then o here.place (small_step (Small.Reads i)) last_step m0 m1 m2 (Ok tt) c.in_ok-reads.ensures.grows c.end_row.ensures.grows))
+    subst (λ (x : Option RawIri). Grows o here.place.now (λ s. state_of (step o (Row.Namespace name (option_map ids_seen x)) s)) m0 m2 (Ok tt)) (sym c.in-Some.is)
+    (grows_ext o here.place.now (namespace_on i) (λ s. state_of (step o (Row.Namespace name (Some i)) s)) m0 m2 (Ok tt) (namespace_is o name i late)
+    (grows_then o here.place.now (small_step (Small.Reads i)) last_step m0 m1 m2 (Ok tt) c.in_ok-reads.ensures.grows c.end_row.ensures.grows))

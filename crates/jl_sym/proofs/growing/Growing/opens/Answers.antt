@@ -13,7 +13,7 @@ returns-clause-grows c =
     let here = c.args.here.now in
     let bytes = here.bytes.now in
     let o = options_of here in
-    opens_grows o (growing_seen bytes c.args.self.now) here.place c.requires.fit.made (checked o Position.Graph (position_seen bytes c.args.raw.now))
+    opens_grows o (growing_seen bytes c.args.self.now) here.place.now c.requires.fit.made (checked o Position.Graph (position_seen bytes c.args.raw.now))
     (last_seen bytes c.start.new.left) (demands_seen c.start.new.demands.items) (words_seen c.start.new.last) c.start.result c.start.ensures.asks c.start.ensures.ids c.start.ensures.left c.start.ensures.good.good.within
 
 pub returns-clause-fit : goal.returns-clause-fit

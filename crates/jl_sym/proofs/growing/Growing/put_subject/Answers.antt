@@ -13,7 +13,7 @@ returns-clause-grows c =
     let here = c.args.here.now in
     let bytes = here.bytes.now in
     let o = options_of here in
-    placed_grows o (growing_seen bytes c.args.self.now) here.place Position.Subject (checked o Position.Subject (position_seen bytes c.args.raw.now)) c.requires.fit.made
+    placed_grows o (growing_seen bytes c.args.self.now) here.place.now Position.Subject (checked o Position.Subject (position_seen bytes c.args.raw.now)) c.requires.fit.made
     (last_seen bytes c.place.new.left) (demands_seen c.place.new.demands.items) (words_seen c.place.new.last) c.place.result c.place.ensures.asks c.place.ensures.ids c.place.ensures.left c.place.ensures.good.good.within
 
 pub returns-clause-fit : goal.returns-clause-fit

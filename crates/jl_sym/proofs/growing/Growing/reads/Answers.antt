@@ -10,9 +10,9 @@ returns-in_err-iri-clause-grows c =
     let q = err_from_is_err_and c.from_residual.result c.from_residual.ensures.1 in
     let here = c.args.here.now in
     rw (q.1, q.2)
-    (reads_stopped (options_of here) (growing_seen here.bytes.now c.args.self.now) here.place (ids_seen c.args.iri) c.requires.fit.made (demands_seen c.iri.new.demands.items) c.in_err-iri.field-0.0 c.in_err-iri.ensures.asks c.in_err-iri.ensures.good.good.within)
+    (reads_stopped (options_of here) (growing_seen here.bytes.now c.args.self.now) here.place.now (ids_seen c.args.iri) c.requires.fit.made (demands_seen c.iri.new.demands.items) c.in_err-iri.field-0.0 c.in_err-iri.ensures.asks c.in_err-iri.ensures.good.good.within)
 
 pub returns-clause-grows : goal.returns-clause-grows
 returns-clause-grows c =
     let here = c.args.here.now in
-    reads_grows (options_of here) (growing_seen here.bytes.now c.args.self.now) here.place (ids_seen c.args.iri) c.requires.fit.made (demands_seen c.iri.new.demands.items) (words_seen c.iri.new.last) c.in_ok-iri.ensures.asks c.in_ok-iri.ensures.ids
+    reads_grows (options_of here) (growing_seen here.bytes.now c.args.self.now) here.place.now (ids_seen c.args.iri) c.requires.fit.made (demands_seen c.iri.new.demands.items) (words_seen c.iri.new.last) c.in_ok-iri.ensures.asks c.in_ok-iri.ensures.ids

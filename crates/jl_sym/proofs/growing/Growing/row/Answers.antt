@@ -25,8 +25,8 @@ returns-then-here-eq-GRAPHS-clause-grows c =
     let m0 = growing_seen bytes c.args.self.now in
     let m1 = growing_seen bytes c.triple_inside.new.self in
     let right : is_wrong_row o (row_seen bytes c.args.row.now) ≡ false = sym c.if-is_wrong_row.ensures in
-    subst (λ (r : code.Row). Grows o here.place (λ s. state_of (step o (row_seen bytes r) s)) m0 m1 c.triple_inside.result) (sym c.in-Triple.is)
-    (grows_ext o here.place (inside_on o (position_seen bytes c.in-Triple.t.s) (position_seen bytes c.in-Triple.t.p) (position_seen bytes c.in-Triple.t.o)) (λ s. state_of (step o (row_seen bytes (codes.Triple c.in-Triple.t)) s)) m0 m1 c.triple_inside.result
+    subst (λ (r : code.Row). Grows o here.place.now (λ s. state_of (step o (row_seen bytes r) s)) m0 m1 c.triple_inside.result) (sym c.in-Triple.is)
+    (grows_ext o here.place.now (inside_on o (position_seen bytes c.in-Triple.t.s) (position_seen bytes c.in-Triple.t.p) (position_seen bytes c.in-Triple.t.o)) (λ s. state_of (step o (row_seen bytes (codes.Triple c.in-Triple.t)) s)) m0 m1 c.triple_inside.result
     (triple_inside_is o (position_seen bytes c.in-Triple.t.s) (position_seen bytes c.in-Triple.t.p) (position_seen bytes c.in-Triple.t.o) (ap (λ (r : code.Row). is_wrong_row o (row_seen bytes r)) (sym c.in-Triple.is) ∙ right) (eq-eqb here.options.now.physical 3 c.if-here-eq-GRAPHS.true)) c.triple_inside.ensures.grows)
 
 pub returns-else-here-eq-GRAPHS-clause-grows : goal.returns-else-here-eq-GRAPHS-clause-grows
@@ -37,8 +37,8 @@ returns-else-here-eq-GRAPHS-clause-grows c =
     let m0 = growing_seen bytes c.args.self.now in
     let m1 = growing_seen bytes c.triple.new.self in
     let right : is_wrong_row o (row_seen bytes c.args.row.now) ≡ false = sym c.if-is_wrong_row.ensures in
-    subst (λ (r : code.Row). Grows o here.place (λ s. state_of (step o (row_seen bytes r) s)) m0 m1 c.triple.result) (sym c.in-Triple.is)
-    (grows_ext o here.place (three_on o (position_seen bytes c.in-Triple.t.s) (position_seen bytes c.in-Triple.t.p) (position_seen bytes c.in-Triple.t.o)) (λ s. state_of (step o (row_seen bytes (codes.Triple c.in-Triple.t)) s)) m0 m1 c.triple.result
+    subst (λ (r : code.Row). Grows o here.place.now (λ s. state_of (step o (row_seen bytes r) s)) m0 m1 c.triple.result) (sym c.in-Triple.is)
+    (grows_ext o here.place.now (three_on o (position_seen bytes c.in-Triple.t.s) (position_seen bytes c.in-Triple.t.p) (position_seen bytes c.in-Triple.t.o)) (λ s. state_of (step o (row_seen bytes (codes.Triple c.in-Triple.t)) s)) m0 m1 c.triple.result
     (triple_is o (position_seen bytes c.in-Triple.t.s) (position_seen bytes c.in-Triple.t.p) (position_seen bytes c.in-Triple.t.o) (ap (λ (r : code.Row). is_wrong_row o (row_seen bytes r)) (sym c.in-Triple.is) ∙ right) (ne_eqb here.options.now.physical 3 c.if-here-eq-GRAPHS.false)) c.triple.ensures.grows)
 
 pub returns-in-Quad-clause-grows : goal.returns-in-Quad-clause-grows
@@ -49,8 +49,8 @@ returns-in-Quad-clause-grows c =
     let m0 = growing_seen bytes c.args.self.now in
     let m1 = growing_seen bytes c.quad.new.self in
     let right : is_wrong_row o (row_seen bytes c.args.row.now) ≡ false = sym c.if-is_wrong_row.ensures in
-    subst (λ (r : code.Row). Grows o here.place (λ s. state_of (step o (row_seen bytes r) s)) m0 m1 c.quad.result) (sym c.in-Quad.is)
-    (grows_ext o here.place (four_on o (position_seen bytes c.in-Quad.t.s) (position_seen bytes c.in-Quad.t.p) (position_seen bytes c.in-Quad.t.o) (position_seen bytes c.in-Quad.t.g)) (λ s. state_of (step o (row_seen bytes (codes.Quad c.in-Quad.t)) s)) m0 m1 c.quad.result
+    subst (λ (r : code.Row). Grows o here.place.now (λ s. state_of (step o (row_seen bytes r) s)) m0 m1 c.quad.result) (sym c.in-Quad.is)
+    (grows_ext o here.place.now (four_on o (position_seen bytes c.in-Quad.t.s) (position_seen bytes c.in-Quad.t.p) (position_seen bytes c.in-Quad.t.o) (position_seen bytes c.in-Quad.t.g)) (λ s. state_of (step o (row_seen bytes (codes.Quad c.in-Quad.t)) s)) m0 m1 c.quad.result
     (quad_is o (position_seen bytes c.in-Quad.t.s) (position_seen bytes c.in-Quad.t.p) (position_seen bytes c.in-Quad.t.o) (position_seen bytes c.in-Quad.t.g) (ap (λ (r : code.Row). is_wrong_row o (row_seen bytes r)) (sym c.in-Quad.is) ∙ right)) c.quad.ensures.grows)
 
 pub returns-in-GraphStart-clause-grows : goal.returns-in-GraphStart-clause-grows
@@ -61,8 +61,8 @@ returns-in-GraphStart-clause-grows c =
     let m0 = growing_seen bytes c.args.self.now in
     let m1 = growing_seen bytes c.graph_start.new.self in
     let right : is_wrong_row o (row_seen bytes c.args.row.now) ≡ false = sym c.if-is_wrong_row.ensures in
-    subst (λ (r : code.Row). Grows o here.place (λ s. state_of (step o (row_seen bytes r) s)) m0 m1 c.graph_start.result) (sym c.in-GraphStart.is)
-    (grows_ext o here.place (start_on o (position_seen bytes c.in-GraphStart.g)) (λ s. state_of (step o (row_seen bytes (codes.GraphStart c.in-GraphStart.g)) s)) m0 m1 c.graph_start.result
+    subst (λ (r : code.Row). Grows o here.place.now (λ s. state_of (step o (row_seen bytes r) s)) m0 m1 c.graph_start.result) (sym c.in-GraphStart.is)
+    (grows_ext o here.place.now (start_on o (position_seen bytes c.in-GraphStart.g)) (λ s. state_of (step o (row_seen bytes (codes.GraphStart c.in-GraphStart.g)) s)) m0 m1 c.graph_start.result
     (start_is o (position_seen bytes c.in-GraphStart.g) (ap (λ (r : code.Row). is_wrong_row o (row_seen bytes r)) (sym c.in-GraphStart.is) ∙ right)) c.graph_start.ensures.grows)
 
 pub returns-in-GraphEnd-clause-grows : goal.returns-in-GraphEnd-clause-grows
@@ -73,8 +73,8 @@ returns-in-GraphEnd-clause-grows c =
     let m0 = growing_seen bytes c.args.self.now in
     let m1 = growing_seen bytes c.graph_end.new.self in
     let right : is_wrong_row o (row_seen bytes c.args.row.now) ≡ false = sym c.if-is_wrong_row.ensures in
-    subst (λ (r : code.Row). Grows o here.place (λ s. state_of (step o (row_seen bytes r) s)) m0 m1 c.graph_end.result) (sym c.in-GraphEnd.is)
-    (grows_ext o here.place (end_on) (λ s. state_of (step o (row_seen bytes (codes.GraphEnd)) s)) m0 m1 c.graph_end.result
+    subst (λ (r : code.Row). Grows o here.place.now (λ s. state_of (step o (row_seen bytes r) s)) m0 m1 c.graph_end.result) (sym c.in-GraphEnd.is)
+    (grows_ext o here.place.now (end_on) (λ s. state_of (step o (row_seen bytes (codes.GraphEnd)) s)) m0 m1 c.graph_end.result
     (end_is o (ap (λ (r : code.Row). is_wrong_row o (row_seen bytes r)) (sym c.in-GraphEnd.is) ∙ right)) c.graph_end.ensures.grows)
 
 pub returns-in-Namespace-clause-grows : goal.returns-in-Namespace-clause-grows
@@ -88,5 +88,5 @@ returns-in-Entry-clause-grows c =
     let o = options_of here in
     let bytes = here.bytes.now in
     let text = text_of bytes c.in-Entry.text in
-    grows_ext o here.place (small_step (Small.Entry c.in-Entry.table c.in-Entry.id text)) (λ s. state_of (step o (row_seen bytes c.args.row.now) s)) (growing_seen bytes c.args.self.now) (growing_seen bytes c.entry.new.self) c.entry.result
+    grows_ext o here.place.now (small_step (Small.Entry c.in-Entry.table c.in-Entry.id text)) (λ s. state_of (step o (row_seen bytes c.args.row.now) s)) (growing_seen bytes c.args.self.now) (growing_seen bytes c.entry.new.self) c.entry.result
     (λ t. entry_is o c.in-Entry.table c.in-Entry.id text t ∙ ap (λ (r : code.Row). state_of (step o (row_seen bytes r) t)) (sym c.in-Entry.is)) c.entry.ensures.grows

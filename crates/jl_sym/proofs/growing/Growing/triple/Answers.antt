@@ -21,7 +21,7 @@ returns-in_err-put_subject-clause-grows c =
     let m1 = growing_seen bytes c.put_subject.new.self in
     let stop = c.in_err-put_subject.field-0.0 in
     rw (q.1, q.2)
-    (grows_stopped o here.place (puts o Position.Subject x) (predicate_on o y z) m0 m1 stop c.in_err-put_subject.ensures.grows)
+    (grows_stopped o here.place.now (puts o Position.Subject x) (predicate_on o y z) m0 m1 stop c.in_err-put_subject.ensures.grows)
 
 pub returns-in_err-put_predicate-clause-grows : goal.returns-in_err-put_predicate-clause-grows
 returns-in_err-put_predicate-clause-grows c =
@@ -37,8 +37,8 @@ returns-in_err-put_predicate-clause-grows c =
     let m2 = growing_seen bytes c.put_predicate.new.self in
     let stop = c.in_err-put_predicate.field-0.0 in
     rw (q.1, q.2)
-    (grows_then o here.place (puts o Position.Subject x) (predicate_on o y z) m0 m1 m2 (Err stop) c.in_ok-put_subject.ensures.grows
-    (grows_stopped o here.place (puts o Position.Predicate y) (object_on o z) m1 m2 stop c.in_err-put_predicate.ensures.grows))
+    (grows_then o here.place.now (puts o Position.Subject x) (predicate_on o y z) m0 m1 m2 (Err stop) c.in_ok-put_subject.ensures.grows
+    (grows_stopped o here.place.now (puts o Position.Predicate y) (object_on o z) m1 m2 stop c.in_err-put_predicate.ensures.grows))
 
 pub returns-in_err-put_object-clause-grows : goal.returns-in_err-put_object-clause-grows
 returns-in_err-put_object-clause-grows c =
@@ -55,9 +55,9 @@ returns-in_err-put_object-clause-grows c =
     let m3 = growing_seen bytes c.put_object.new.self in
     let stop = c.in_err-put_object.field-0.0 in
     rw (q.1, q.2)
-    (grows_then o here.place (puts o Position.Subject x) (predicate_on o y z) m0 m1 m3 (Err stop) c.in_ok-put_subject.ensures.grows
-    (grows_then o here.place (puts o Position.Predicate y) (object_on o z) m1 m2 m3 (Err stop) c.in_ok-put_predicate.ensures.grows
-    (grows_stopped o here.place (puts o Position.Object z) (last_step) m2 m3 stop c.in_err-put_object.ensures.grows)))
+    (grows_then o here.place.now (puts o Position.Subject x) (predicate_on o y z) m0 m1 m3 (Err stop) c.in_ok-put_subject.ensures.grows
+    (grows_then o here.place.now (puts o Position.Predicate y) (object_on o z) m1 m2 m3 (Err stop) c.in_ok-put_predicate.ensures.grows
+    (grows_stopped o here.place.now (puts o Position.Object z) (last_step) m2 m3 stop c.in_err-put_object.ensures.grows)))
 
 pub returns-clause-grows : goal.returns-clause-grows
 returns-clause-grows c =
@@ -72,7 +72,7 @@ returns-clause-grows c =
     let m2 = growing_seen bytes c.put_predicate.new.self in
     let m3 = growing_seen bytes c.put_object.new.self in
     let m4 = growing_seen bytes c.end_row.new.self in
-    grows_then o here.place (puts o Position.Subject x) (predicate_on o y z) m0 m1 m4 (Ok tt) c.in_ok-put_subject.ensures.grows
-    (grows_then o here.place (puts o Position.Predicate y) (object_on o z) m1 m2 m4 (Ok tt) c.in_ok-put_predicate.ensures.grows
-    (grows_then o here.place (puts o Position.Object z) (last_step) m2 m3 m4 (Ok tt) c.in_ok-put_object.ensures.grows
+    grows_then o here.place.now (puts o Position.Subject x) (predicate_on o y z) m0 m1 m4 (Ok tt) c.in_ok-put_subject.ensures.grows
+    (grows_then o here.place.now (puts o Position.Predicate y) (object_on o z) m1 m2 m4 (Ok tt) c.in_ok-put_predicate.ensures.grows
+    (grows_then o here.place.now (puts o Position.Object z) (last_step) m2 m3 m4 (Ok tt) c.in_ok-put_object.ensures.grows
     c.end_row.ensures.grows))

@@ -17,7 +17,7 @@ returns-in_err-in_graph-clause-grows c =
     let y = position_seen bytes c.args.t.now.p in
     let z = position_seen bytes c.args.t.now.o in
     rw (q.1, q.2)
-    (grows_stopped o here.place (small_step Small.IsInGraph) (three_on o x y z) (growing_seen bytes c.args.self.now) (growing_seen bytes c.in_graph.new.self) c.in_err-in_graph.field-0.0 c.in_err-in_graph.ensures.grows)
+    (grows_stopped o here.place.now (small_step Small.IsInGraph) (three_on o x y z) (growing_seen bytes c.args.self.now) (growing_seen bytes c.in_graph.new.self) c.in_err-in_graph.field-0.0 c.in_err-in_graph.ensures.grows)
 
 pub returns-clause-grows : goal.returns-clause-grows
 returns-clause-grows c =
@@ -27,4 +27,4 @@ returns-clause-grows c =
     let x = position_seen bytes c.args.t.now.s in
     let y = position_seen bytes c.args.t.now.p in
     let z = position_seen bytes c.args.t.now.o in
-    grows_then o here.place (small_step Small.IsInGraph) (three_on o x y z) (growing_seen bytes c.args.self.now) (growing_seen bytes c.in_graph.new.self) (growing_seen bytes c.triple.new.self) c.triple.result c.in_ok-in_graph.ensures.grows c.triple.ensures.grows
+    grows_then o here.place.now (small_step Small.IsInGraph) (three_on o x y z) (growing_seen bytes c.args.self.now) (growing_seen bytes c.in_graph.new.self) (growing_seen bytes c.triple.new.self) c.triple.result c.in_ok-in_graph.ensures.grows c.triple.ensures.grows

@@ -29,7 +29,7 @@ fn is_rare(left: &Last<'_>, raw: &Option<RawTerm>) -> bool {
 }
 
 impl<'a> Growing<'a> {
-    // The same of any subject.
+    // Any subject; it stands apart, for the rare ones.
     #[inline(never)]
     fn put_subject_later(
         &mut self,
@@ -94,7 +94,7 @@ impl<'a> Growing<'a> {
         )
     }
 
-    // The same of any predicate.
+    // Any predicate; it stands apart, for the rare ones.
     #[inline(never)]
     fn put_predicate_later(
         &mut self,
@@ -159,7 +159,7 @@ impl<'a> Growing<'a> {
         )
     }
 
-    // The same of any object.
+    // Any object; it stands apart, for the rare ones.
     #[inline(never)]
     fn put_object_later(
         &mut self,
@@ -210,7 +210,7 @@ impl<'a> Growing<'a> {
         asker.place(demands, marks, ids, Position::Object, &mut self.object, raw)
     }
 
-    // The same of any graph.
+    // Any graph; it stands apart, for the rare ones.
     #[inline(never)]
     fn put_graph_later(
         &mut self,

@@ -1,18 +1,24 @@
 -- A tape, row by row.
-use Rattle.std.proofs.Common.{◌≡◌, ℕ, zero, suc, ◌+◌, ◌≤◌, List, [], ◌∷◌, length, drop, slice_get, Option, Some, None, Result, Ok, refl, ◌∙◌, ap, subst, arith}
+use Rattle.std.proofs.Common.{◌≡◌, ℕ, zero, suc, ◌+◌, ◌≤◌, List, [], ◌∷◌, length, drop, slice_get, Option, Some, None, Result, Ok, Err, OnOk, refl, ◌∙◌, ap, subst, arith}
 use Rattle.std.proofs.lemmas.List.{drop_all}
 use Rattle.jl_base.specs.Results.{◌>>=◌, Reading, followed, with_front, joined}
 use Rattle.jl_base.specs.declared.kind.Kind.{Kind}
 use Rattle.jl_base.specs.declared.place.Fault.{Fault}
 use Rattle.jl_rows.specs.Written.{StreamOptions}
 use Rattle.jl_rows.specs.Files.{Placed}
-use Rattle.jl_rows.specs.Seen.{HasRow}
+use Rattle.jl_rows.specs.Seen.{options_seen, HasRow}
 use Rattle.jl_state.specs.States.{State}
-use Rattle.jl_state.specs.Steps.{step}
+use Rattle.jl_state.specs.declared.stop.Stop.{Stop}
+use Rattle.jl_state.specs.declared.stop.Stop.TheVariants as stops
+use Rattle.jl_state.specs.Lawful.{state_seen}
+use Rattle.jl_state.specs.Steps.{Stepped, step}
 use Rattle.jl_state.specs.Running.{after_rows, after_reading, at_place, settled, state_of}
 use Rattle.jl_tape.specs.declared.tape.PlacedRow.{PlacedRow}
 use Rattle.jl_tape.specs.Tapes.{placed_seen, reading_of, HasRows}
-use Rattle.jl_lines.specs.Taped.{left_on}
+use Rattle.jl_lines.specs.declared.decoding.Decoding.{Decoding}
+use Rattle.jl_lines.specs.Going.{TakesRow, outcome}
+use Rattle.jl_lines.specs.Taped.{left_on, LeadsAt}
+use Rattle.jl_lines.proofs.GoingLemmas.{goes_row, halts_row}
 
 drop_get : {A : Type 0} (xs : List A) (i : ℕ) (x : A) → slice_get xs i ≡ Some x → drop i xs ≡ x ∷ drop (suc i) xs
 drop_get [] i x e = cc
@@ -61,3 +67,15 @@ module _ (bytes : List ℕ) (tape : List PlacedRow) (fault : Option Fault) where
 pub after_none : (o : StreamOptions) (s : State) (fault : Option Fault) → after_reading o s (record { items = []; fault = fault }) ≡ settled fault s
 unfolding after_rows
 after_none o s fault = refl
+
+-- a row at its place, by its step
+pub takes_leads : (bytes : List ℕ) (d d' : Decoding) (p : Placed) (B : Reading Placed Fault) (result : Result (Unit {0}) Stop)
+    → TakesRow bytes (step (options_seen bytes d.state.options) p.row (state_seen bytes d.state)) d d' result → d'.state.options ≡ d.state.options → d'.writing ≡ d.writing
+    → LeadsAt p.place (outcome bytes d (with_front p B)) (outcome bytes d' B) d' result
+takes_leads bytes d d' p B (Ok _) took options writing = goes_row bytes d d' (with_front p B) p B took.0 refl options writing took.1 took.2 took.3
+takes_leads bytes d d' p B (Err (stops.Fault kind)) took options writing = halts_row bytes d d' (with_front p B) p B kind refl took.0 took.1 took.2
+takes_leads bytes d d' p B (Err stops.NoMemory) took options writing = tt
+
+pub takes_state : (bytes : List ℕ) (said : Stepped) (d d' : Decoding) (result : Result (Unit {0}) Stop) → TakesRow bytes said d d' result → OnOk result (state_of said ≡ Ok (state_seen bytes d'.state))
+takes_state bytes said d d' (Ok _) took = ap state_of took.1
+takes_state bytes said d d' (Err stop) took = tt

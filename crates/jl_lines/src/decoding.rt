@@ -119,6 +119,7 @@ impl Decoding {
     }
 
     // One row's items.
+    #[inline(always)]
     pub(crate) fn row(&mut self, alloc: Global, bytes: &[u8], row: &Row) -> Result<(), Stop>
         requires kept { Keeps bytes.now self.old }
         requires inside { HasRow bytes.now row.now }

@@ -98,7 +98,7 @@ impl Page {
     }
 
     /// Appends the line of the state's last terms. What these repeat of the last line is told.
-    #[inline]
+    #[inline(always)]
     pub(crate) fn statement(
         &mut self,
         bytes: &[u8],

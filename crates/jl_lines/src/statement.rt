@@ -10,7 +10,7 @@ ghost use Rattle.jl_state.specs.Lawful.{state_seen, maybe_value, value_or_defaul
 
 use crate::known::push_known;
 use crate::line::{Line, Repeats};
-use crate::placing::{END_ROOM, TERM_ROOM, place_known};
+use crate::placing::{END_ROOM, TERM_ROOM, place_known, place_name};
 use jl_rows::{GRAPHS, QUADS};
 use jl_state::{Known, State};
 use jl_text::{AGAIN, place_again, place_byte, place_pair};
@@ -69,7 +69,7 @@ fn put_unusual(
 }
 
 // Writes a term's text, and a space.
-#[inline]
+#[inline(always)]
 fn put_known(
     page: &mut Vec<u8>,
     aside: &mut Vec<u8>,
@@ -84,17 +84,82 @@ fn put_known(
     ensures longer { vec_len page.old ≤ vec_len page.new }
 {
     if page.len() - at >= TERM_ROOM {
-        if let Some(end) = place_known(page.as_mut_slice(), at, bytes, term) {
-            return Ok(place_byte(page.as_mut_slice(), end, b' '));
+        let page = page.as_mut_slice();
+        if let Some(end) = place_known(page, at, bytes, term) {
+            return Ok(place_byte(page, end, b' '));
         }
     }
     put_unusual(page, aside, at, bytes, term)
 }
 
-// Writes the text of a position's term, and a space.
-#[inline]
+// The same, apart from the loop over rows.
+#[inline(never)]
+fn put_apart(
+    page: &mut Vec<u8>,
+    aside: &mut Vec<u8>,
+    at: usize,
+    bytes: &[u8],
+    term: &Known,
+) -> Result<usize, AllocError>
+    requires inside { at ≤ vec_len page.old }
+    requires has { HasKnown bytes.now term.now }
+    ensures text { IfOk result (λ end. take end page.new.items ≡ take at page.old.items ++ (term_text (known_value bytes.now term.now) ++ codes " ")) }
+    ensures room { IfOk result (λ end. end + 2 ≤ vec_len page.new) }
+    ensures longer { vec_len page.old ≤ vec_len page.new }
+{
+    put_known(page, aside, at, bytes, term)
+}
+
+// Writes a term's text, and a space, at a position that has an IRI nearly always: only this is placed here.
+#[inline(always)]
+fn put_name(
+    page: &mut Vec<u8>,
+    aside: &mut Vec<u8>,
+    at: usize,
+    bytes: &[u8],
+    term: &Known,
+) -> Result<usize, AllocError>
+    requires inside { at ≤ vec_len page.old }
+    requires has { HasKnown bytes.now term.now }
+    ensures text { IfOk result (λ end. take end page.new.items ≡ take at page.old.items ++ (term_text (known_value bytes.now term.now) ++ codes " ")) }
+    ensures room { IfOk result (λ end. end + 2 ≤ vec_len page.new) }
+    ensures longer { vec_len page.old ≤ vec_len page.new }
+{
+    if TERM_ROOM <= page.len() - at {
+        let page = page.as_mut_slice();
+        if let Some(end) = place_name(page, at, bytes, term) {
+            return Ok(place_byte(page, end, b' '));
+        }
+    }
+    put_apart(page, aside, at, bytes, term)
+}
+
+// Writes the text of a subject or a predicate, and a space.
+#[inline(always)]
 #[tactic(auto, unfolding(jl_text::specs::Line::term_text))]
 fn put_position(
+    page: &mut Vec<u8>,
+    aside: &mut Vec<u8>,
+    at: usize,
+    bytes: &[u8],
+    term: &Option<Known>,
+) -> Result<usize, AllocError>
+    requires inside { at ≤ vec_len page.old }
+    requires has { HasMaybe bytes.now term.now }
+    ensures text { IfOk result (λ end. take end page.new.items ≡ take at page.old.items ++ (term_text (value_or_default (maybe_value bytes.now term.now)) ++ codes " ")) }
+    ensures room { IfOk result (λ end. end + 2 ≤ vec_len page.new) }
+    ensures longer { vec_len page.old ≤ vec_len page.new }
+{
+    match term {
+        Some(known) => put_name(page, aside, at, bytes, known),
+        None => put_unusual(page, aside, at, bytes, &Known::Default),
+    }
+}
+
+// Writes the text of an object, and a space.
+#[inline(always)]
+#[tactic(auto, unfolding(jl_text::specs::Line::term_text))]
+fn put_object(
     page: &mut Vec<u8>,
     aside: &mut Vec<u8>,
     at: usize,
@@ -121,8 +186,8 @@ struct Before {
     end: usize,
 }
 
-// Writes the text of a position's term, and a space. Where the last line has the same, it is written again.
-#[inline]
+// Writes the text of a subject or a predicate, and a space. Where the last line has the same, it is written again.
+#[inline(always)]
 fn put_again(
     page: &mut Vec<u8>,
     aside: &mut Vec<u8>,
@@ -139,11 +204,40 @@ fn put_again(
     ensures room { IfOk result (λ end. end + 2 ≤ vec_len page.new) }
     ensures longer { vec_len page.old ≤ vec_len page.new }
 {
-    let len = before.end - before.from;
-    if before.is_same && len > 0 && len <= AGAIN && page.len() - at >= TERM_ROOM {
-        return Ok(place_again(page.as_mut_slice(), at, before.from, len));
+    if before.is_same {
+        let len = before.end - before.from;
+        if len > 0 && len <= AGAIN && page.len() - at >= TERM_ROOM {
+            return Ok(place_again(page.as_mut_slice(), at, before.from, len));
+        }
     }
     put_position(page, aside, at, bytes, term)
+}
+
+// The same of an object.
+#[inline(always)]
+fn put_object_again(
+    page: &mut Vec<u8>,
+    aside: &mut Vec<u8>,
+    at: usize,
+    bytes: &[u8],
+    term: &Option<Known>,
+    before: Before,
+) -> Result<usize, AllocError>
+    requires inside { at ≤ vec_len page.old }
+    requires order { (before.from ≤ before.end) × (before.end ≤ at) }
+    requires has { HasMaybe bytes.now term.now }
+    requires same { IsTrue before.is_same → IsStill (slice_range page.old.items before.from before.end) (maybe_value bytes.now term.now) }
+    ensures text { IfOk result (λ end. take end page.new.items ≡ take at page.old.items ++ (term_text (value_or_default (maybe_value bytes.now term.now)) ++ codes " ")) }
+    ensures room { IfOk result (λ end. end + 2 ≤ vec_len page.new) }
+    ensures longer { vec_len page.old ≤ vec_len page.new }
+{
+    if before.is_same {
+        let len = before.end - before.from;
+        if len > 0 && len <= AGAIN && page.len() - at >= TERM_ROOM {
+            return Ok(place_again(page.as_mut_slice(), at, before.from, len));
+        }
+    }
+    put_object(page, aside, at, bytes, term)
 }
 
 // The term is the default graph.
@@ -161,7 +255,7 @@ fn is_default(bytes: &[u8], term: &Known) -> bool
 }
 
 // Writes the graph's text, and a space behind it; the default graph has neither.
-#[inline]
+#[inline(never)]
 fn put_graph(
     page: &mut Vec<u8>,
     aside: &mut Vec<u8>,
@@ -181,10 +275,11 @@ fn put_graph(
     if is_default(bytes, known) {
         return Ok(at);
     }
-    put_known(page, aside, at, bytes, known)
+    put_name(page, aside, at, bytes, known)
 }
 
 // Writes the graph that a statement stands in, and a space behind it.
+#[inline(always)]
 fn put_graph_around(
     page: &mut Vec<u8>,
     aside: &mut Vec<u8>,
@@ -219,7 +314,7 @@ fn put_end(page: &mut Vec<u8>, at: usize) -> usize
 }
 
 /// Writes the line of the state's last terms behind the last line.
-#[inline]
+#[inline(always)]
 pub(crate) fn put_statement(
     page: &mut Vec<u8>,
     aside: &mut Vec<u8>,
@@ -257,7 +352,7 @@ pub(crate) fn put_statement(
         from: last.predicate,
         end: last.object,
     };
-    let object = put_again(page, aside, predicate, bytes, &state.object, third)?;
+    let object = put_object_again(page, aside, predicate, bytes, &state.object, third)?;
     let behind = put_graph_around(page, aside, object, bytes, state)?;
     Ok(Line {
         start: last.end,

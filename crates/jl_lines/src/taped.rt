@@ -11,37 +11,41 @@ ghost use Rattle.jl_state.specs.Steps.{step};
 ghost use Rattle.jl_tape.specs.Tapes.{HasRows, placed_seen, reading_of};
 ghost use Rattle.jl_lines.specs.Kept.{Keeps};
 ghost use Rattle.jl_lines.specs.Going.{counted, outcome};
-ghost use Rattle.jl_lines.specs.Taped.{Leads};
+ghost use Rattle.jl_lines.specs.Taped.{Leads, LeadsAt, refusal};
 
 use crate::decoding::{Decoding, Refused};
-use jl_base::Fault;
+use jl_base::{Fault, Place};
 use jl_state::Stop;
 use jl_tape::{PlacedRow, Tape};
 use std::alloc::Global;
 
+// Why the row at a place isn't taken. It stands apart, so that the loop over rows keeps no room for it.
+#[inline(never)]
+fn refused(place: Place, stop: Stop) -> Refused
+    ensures { result ≡ refusal place stop }
+{
+    match stop {
+        Stop::Fault(kind) => Refused::Malformed(Fault { place, kind }),
+        Stop::NoMemory => Refused::NoMemory,
+    }
+}
+
 impl Decoding {
     // One row at its place. It is passed by where it lies, since it is large.
-    #[inline]
-    fn placed_row(&mut self, alloc: Global, bytes: &[u8], placed: &PlacedRow) -> Result<(), Refused>
+    #[inline(always)]
+    fn placed_row(&mut self, alloc: Global, bytes: &[u8], placed: &PlacedRow) -> Result<(), Stop>
         requires kept { Keeps bytes.now self.old }
         requires inside { HasRow bytes.now placed.now.row }
         requires short { length bytes.now ≤ most_bytes }
         requires few { counted self.old < 2 ^ 63 }
-        ensures comes { (B : Reading Placed faults.Fault) → Leads (outcome bytes.now self.old (with_front (placed_seen bytes.now placed.now) B)) (outcome bytes.now self.new B) self.new result }
+        ensures comes { (B : Reading Placed faults.Fault) → LeadsAt placed.now.place (outcome bytes.now self.old (with_front (placed_seen bytes.now placed.now) B)) (outcome bytes.now self.new B) self.new result }
         ensures state { OnOk result (state_of (step (options_seen bytes.now self.old.state.options) (row_seen bytes.now placed.now.row) (state_seen bytes.now self.old.state)) ≡ Ok (state_seen bytes.now self.new.state)) }
         ensures few { counted self.new ≤ counted self.old + 1 }
         ensures kept { OnOk result (Keeps bytes.now self.new) }
         ensures options { self.new.state.options ≡ self.old.state.options }
         ensures writing { self.new.writing ≡ self.old.writing }
     {
-        match self.row(alloc, bytes, &placed.row) {
-            Ok(()) => Ok(()),
-            Err(Stop::Fault(kind)) => Err(Refused::Malformed(Fault {
-                place: placed.place,
-                kind,
-            })),
-            Err(Stop::NoMemory) => Err(Refused::NoMemory),
-        }
+        self.row(alloc, bytes, &placed.row)
     }
 
     /// The items of a tape's rows, and then the fault that ends them. The loop stands apart, so that it has the registers
@@ -66,7 +70,11 @@ impl Decoding {
         ensures writing { self.new.writing ≡ self.old.writing }
     {
         for i in 0..tape.len() {
-            self.placed_row(alloc, bytes, tape.at(i))?;
+            let placed = tape.at(i);
+            match self.placed_row(alloc, bytes, placed) {
+                Ok(()) => {}
+                Err(stop) => return Err(refused(placed.place, stop)),
+            }
         }
         match fault {
             Some(fault) => Err(Refused::Malformed(fault)),

@@ -26,7 +26,7 @@ pub enum Writing {
 
 impl Writing {
     // Appends what is written of the statement that a state's last terms are.
-    #[inline]
+    #[inline(always)]
     pub(crate) fn statement(
         self,
         page: &mut Page,

@@ -10,4 +10,4 @@ returns-then-is_default-clause-text c = untold c.args.bytes.now c.args.graph.now
 
 pub returns-clause-text : goal.returns-clause-text
 returns-clause-text c =
-    rw (told c.args.bytes.now c.args.graph.now c.in-Some.known c.in-Some.is (sym c.is_default.ensures ∙ c.if-is_default.false)) c.put_known.ensures.text
+    rw (told c.args.bytes.now c.args.graph.now c.in-Some.known c.in-Some.is (sym c.is_default.ensures ∙ c.if-is_default.false)) c.put_name.ensures.text

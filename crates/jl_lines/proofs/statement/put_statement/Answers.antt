@@ -20,15 +20,15 @@ put_again-requires-2-clause-same c true =
     (sym (range_left c.args.page.now.items c.put_again.new.page.items c.args.last.end c.args.last.subject c.args.last.predicate first.front last.predicate (omega (arith, last.object, last.end))))
     (c.requires.predicate true)
 
-pub put_again-requires-3-clause-order : goal.put_again-requires-3-clause-order
-put_again-requires-3-clause-order c =
+pub put_object_again-requires-clause-order : goal.put_object_again-requires-clause-order
+put_object_again-requires-clause-order c =
     let last = c.requires.ordered in
     let first = wrote c.args.page.now.items c.put_again.new.page.items _ c.args.last.end c.in_ok-subject.subject (omega (arith, last.within)) (omega (arith, c.in_ok-subject.ensures.room)) c.in_ok-subject.ensures.text in
     let second = wrote c.put_again.new.page.items c.put_again-2.new.page.items _ c.in_ok-subject.subject c.in_ok-predicate.predicate (omega (arith, c.in_ok-subject.ensures.room)) (omega (arith, c.in_ok-predicate.ensures.room)) c.in_ok-predicate.ensures.text in
     (last.object, omega (arith, last.end, first.moved, second.moved))
 
-pub put_again-requires-3-clause-same : goal.put_again-requires-3-clause-same
-put_again-requires-3-clause-same c true =
+pub put_object_again-requires-clause-same : goal.put_object_again-requires-clause-same
+put_object_again-requires-clause-same c true =
     let last = c.requires.ordered in
     let first = wrote c.args.page.now.items c.put_again.new.page.items _ c.args.last.end c.in_ok-subject.subject (omega (arith, last.within)) (omega (arith, c.in_ok-subject.ensures.room)) c.in_ok-subject.ensures.text in
     let second = wrote c.put_again.new.page.items c.put_again-2.new.page.items _ c.in_ok-subject.subject c.in_ok-predicate.predicate (omega (arith, c.in_ok-subject.ensures.room)) (omega (arith, c.in_ok-predicate.ensures.room)) c.in_ok-predicate.ensures.text in
@@ -48,7 +48,7 @@ returns-clause-ordered c =
     let p0 = c.args.page.now.items in
     let p1 = c.put_again.new.page.items in
     let p2 = c.put_again-2.new.page.items in
-    let p3 = c.put_again-3.new.page.items in
+    let p3 = c.put_object_again.new.page.items in
     let p4 = c.put_graph_around.new.page.items in
     let p5 = c.put_end.new.page.items in
     let s = c.in_ok-subject.subject in
@@ -68,7 +68,7 @@ returns-clause-subject c =
     let p0 = c.args.page.now.items in
     let p1 = c.put_again.new.page.items in
     let p2 = c.put_again-2.new.page.items in
-    let p3 = c.put_again-3.new.page.items in
+    let p3 = c.put_object_again.new.page.items in
     let p4 = c.put_graph_around.new.page.items in
     let p5 = c.put_end.new.page.items in
     let s = c.in_ok-subject.subject in
@@ -92,7 +92,7 @@ returns-clause-predicate c =
     let p0 = c.args.page.now.items in
     let p1 = c.put_again.new.page.items in
     let p2 = c.put_again-2.new.page.items in
-    let p3 = c.put_again-3.new.page.items in
+    let p3 = c.put_object_again.new.page.items in
     let p4 = c.put_graph_around.new.page.items in
     let p5 = c.put_end.new.page.items in
     let s = c.in_ok-subject.subject in
@@ -115,7 +115,7 @@ returns-clause-object c =
     let p0 = c.args.page.now.items in
     let p1 = c.put_again.new.page.items in
     let p2 = c.put_again-2.new.page.items in
-    let p3 = c.put_again-3.new.page.items in
+    let p3 = c.put_object_again.new.page.items in
     let p4 = c.put_graph_around.new.page.items in
     let p5 = c.put_end.new.page.items in
     let s = c.in_ok-subject.subject in

@@ -1,5 +1,4 @@
 use Rattle.std.proofs.Common.{◌+◌, ◌≤◌, [], Option, None, length, refl, ap, ◌∙◌, arith}
-use Rattle.std.proofs.lemmas.Result.{err_from_is_err_and}
 use Rattle.jl_base.specs.Results.{Reading, joined, with_front}
 use Rattle.jl_base.specs.declared.place.Fault.{Fault}
 use Rattle.jl_rows.specs.Files.{Placed}
@@ -9,7 +8,7 @@ use Rattle.jl_state.specs.Running.{after_reading}
 use Rattle.jl_tape.specs.Tapes.{placed_seen, reading_of}
 use Rattle.jl_lines.specs.declared.decoding.Refused.TheVariants as refused
 use Rattle.jl_lines.specs.Going.{outcome}
-use Rattle.jl_lines.specs.Taped.{left_on}
+use Rattle.jl_lines.specs.Taped.{left_on, refusal}
 use Rattle.jl_lines.proofs.GoingLemmas.{halts_read, halts_then}
 use Rattle.jl_lines.proofs.Taping.{after_next, after_none, has_at, left_ended, left_next}
 use Rattle.jl_lines.proofs.decoding.Decoding.taped.Goals as goal
@@ -18,40 +17,39 @@ pub loop-i-init : goal.loop-i-init
 loop-i-init c = record { went = λ B. refl; state = refl; few = omega arith; kept = c.requires.kept; options = refl; writing = refl }
 
 pub placed_row-requires-clause-inside : goal.placed_row-requires-clause-inside
-placed_row-requires-clause-inside c = has_at c.args.bytes.now c.args.tape.now c.loop-i.i c.at.result.now c.requires.rows c.at.ensures
+placed_row-requires-clause-inside c = has_at c.args.bytes.now c.args.tape.now c.loop-i.i c.at-placed.result.now c.requires.rows c.at-placed.ensures
 
 pub loop-i-preserved : goal.loop-i-preserved
 loop-i-preserved c =
     let bytes = c.args.bytes.now in
     let tape = c.args.tape.now in
-    let p = c.at.result.now in
+    let p = c.at-placed.result.now in
     record {
       went = λ B. (
           let rest = joined (left_on bytes tape (c.loop-i.i + 1) c.args.fault) B in
           c.loop-i.invariant.went B
-          ∙ ap (outcome bytes c.loop-i.self) (left_next bytes tape c.args.fault B c.loop-i.i p c.at.ensures)
-          ∙ c.in_ok-placed_row.ensures.comes rest);
+          ∙ ap (outcome bytes c.loop-i.self) (left_next bytes tape c.args.fault B c.loop-i.i p c.at-placed.ensures)
+          ∙ c.in-Ok.ensures.comes rest);
       state =
-          (let said = rw c.loop-i.invariant.options at c.in_ok-placed_row.ensures.state in
+          (let said = rw c.loop-i.invariant.options at c.in-Ok.ensures.state in
           c.loop-i.invariant.state
-          ∙ after_next bytes tape c.args.fault (options_seen bytes c.args.self.now.state.options) (state_seen bytes c.loop-i.self.state) (state_seen bytes c.placed_row.new.self.state) c.loop-i.i p c.at.ensures said);
-      few = let one = c.in_ok-placed_row.ensures.few in omega (arith, one, c.loop-i.invariant.few);
-      kept = c.in_ok-placed_row.ensures.kept;
-      options = c.in_ok-placed_row.ensures.options ∙ c.loop-i.invariant.options;
-      writing = c.in_ok-placed_row.ensures.writing ∙ c.loop-i.invariant.writing;
+          ∙ after_next bytes tape c.args.fault (options_seen bytes c.args.self.now.state.options) (state_seen bytes c.loop-i.self.state) (state_seen bytes c.placed_row.new.self.state) c.loop-i.i p c.at-placed.ensures said);
+      few = let one = c.in-Ok.ensures.few in omega (arith, one, c.loop-i.invariant.few);
+      kept = c.in-Ok.ensures.kept;
+      options = c.in-Ok.ensures.options ∙ c.loop-i.invariant.options;
+      writing = c.in-Ok.ensures.writing ∙ c.loop-i.invariant.writing;
     }
 
-pub returns-in_err-placed_row-clause-comes : goal.returns-in_err-placed_row-clause-comes
-returns-in_err-placed_row-clause-comes c B =
+pub returns-in-Err-clause-comes : goal.returns-in-Err-clause-comes
+returns-in-Err-clause-comes c B =
     let bytes = c.args.bytes.now in
     let tape = c.args.tape.now in
-    let p = c.at.result.now in
+    let p = c.at-placed.result.now in
     let front = with_front (placed_seen bytes p) (joined (left_on bytes tape (c.loop-i.i + 1) c.args.fault) B) in
-    let q = err_from_is_err_and c.from_residual.result c.from_residual.ensures.1 in
-    rw (q.1, q.2)
-    (halts_then (outcome bytes c.args.self.now (joined (reading_of bytes tape c.args.fault) B)) (outcome bytes c.loop-i.self front) c.placed_row.new.self c.in_err-placed_row.field-0.0
-    (c.loop-i.invariant.went B ∙ ap (outcome bytes c.loop-i.self) (left_next bytes tape c.args.fault B c.loop-i.i p c.at.ensures))
-    (c.in_err-placed_row.ensures.comes (joined (left_on bytes tape (c.loop-i.i + 1) c.args.fault) B)))
+    rw c.refused.ensures
+    (halts_then (outcome bytes c.args.self.now (joined (reading_of bytes tape c.args.fault) B)) (outcome bytes c.loop-i.self front) c.placed_row.new.self (refusal p.place c.in-Err.stop)
+    (c.loop-i.invariant.went B ∙ ap (outcome bytes c.loop-i.self) (left_next bytes tape c.args.fault B c.loop-i.i p c.at-placed.ensures))
+    (c.in-Err.ensures.comes (joined (left_on bytes tape (c.loop-i.i + 1) c.args.fault) B)))
 
 pub returns-in-Some-clause-comes : goal.returns-in-Some-clause-comes
 returns-in-Some-clause-comes c B =

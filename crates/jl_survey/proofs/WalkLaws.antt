@@ -1,95 +1,52 @@
--- What a survey comes to, from place to place of a file.
-use Rattle.std.proofs.Common.{◌≡◌, ℕ, ◌+◌, List, [], length, slice_range, Option, Some, None, Ok, Err, refl, ap, sym, ◌∙◌, false}
+-- What a survey comes to, from row to row and from frame to frame.
+use Rattle.std.proofs.Common.{◌≡◌, ℕ, ◌+◌, List, [], Option, Some, None, Result, Ok, Err, OnOk, refl, ap, sym, ◌∙◌, subst}
 use Rattle.jl_base.specs.Results.{Reading, joined, with_front}
 use Rattle.jl_base.specs.declared.kind.Kind.{Kind}
 use Rattle.jl_base.specs.declared.place.Fault.{Fault}
+use Rattle.jl_rows.specs.declared.options.Options.{Options}
+use Rattle.jl_rows.specs.Files.{Placed, fault_at, placed_on, rows}
 use Rattle.jl_rows.specs.Written.{Row}
-use Rattle.jl_rows.specs.Files.{Placed, fault_at, placed_on, rows, rows_on, frames, frame_rows, all_rows}
-use Rattle.jl_rows.specs.Decoder.{Head, head}
-use Rattle.jl_rows.proofs.FileLaws.{file_next, file_done, file_broken, rows_next, rows_done, rows_broken, row_at, whole_range}
-use Rattle.jl_rows.proofs.FrameLaws.{frames_at_end}
-use Rattle.jl_survey.specs.Surveys.{Surveyed, wire_fault, fault_under, options_in, unless, surveyed, survey}
+use Rattle.jl_rows.proofs.FileLaws.{rows_next, rows_done, rows_broken, row_at}
 use Rattle.jl_survey.specs.declared.numbers.Survey.{Survey}
-use Rattle.jl_survey.specs.Counting.{survey_seen, with_row, with_frame, outlook, at_frame, at_row}
-use Rattle.jl_survey.proofs.CountLaws.{row_counted, frame_counted, nothing_left, start, all_from_start}
+use Rattle.jl_survey.specs.Surveys.{Surveyed}
+use Rattle.jl_survey.specs.Counting.{outlook, ComesOn, HaveAllPassed, IsOver, KeepsOptions}
+use Rattle.jl_survey.proofs.CountLaws.{fault_left}
+
+-- what comes to the same comes on alike
+pub comes_alike : (a b c : Result Surveyed Fault) (r : Result (Unit {0}) Fault) → a ≡ b → ComesOn b c r → ComesOn a c r
+comes_alike a b c (Ok x) e said = e ∙ said
+comes_alike a b c (Err fault) e said = e ∙ said
+
+pub on_ok : {P Q : Type 0} (r : Result (Unit {0}) Fault) → (P → Q) → OnOk r P → OnOk r Q
+on_ok (Ok x) f p = f p
+on_ok (Err fault) f p = tt
 
 -- the rows of a frame, one after another
-module _ (bytes : List ℕ) (s : Survey) (n before at end : ℕ) where
-  abbrev left : Reading (List ℕ) Kind
-  left = frames (slice_range bytes end (length bytes))
+module _ (s : Surveyed) (size : ℕ) (bodies : List (List ℕ)) (B : Reading Placed Fault) (n before : ℕ) (rest : List ℕ) where
+  pub at_next_row : (left : List ℕ) (row : Row) → rows rest ≡ with_front row (rows left)
+      → outlook s size bodies (joined (placed_on n before (rows rest)) B) ≡ outlook s size bodies (with_front (row_at n before row) (joined (placed_on n (before + 1) (rows left)) B))
+  at_next_row left row said = ap (outlook s size bodies) (rows_next n before rest B left row said)
 
-  abbrev behind : Reading Placed Fault
-  behind = rows_on (n + 1) left
+  pub at_last_row : rows rest ≡ record { items = []; fault = None } → outlook s size bodies (joined (placed_on n before (rows rest)) B) ≡ outlook s size bodies B
+  at_last_row said = ap (outlook s size bodies) (rows_done n before rest B said)
 
-  abbrev rest : List ℕ
-  rest = slice_range bytes at end
+  pub at_bad_row : (k : Kind) → rows rest ≡ record { items = []; fault = Some k } → outlook s size bodies (joined (placed_on n before (rows rest)) B) ≡ Err (fault_at n (before + 1) k)
+  at_bad_row k said = ap (outlook s size bodies) (rows_broken n before rest B k said) ∙ fault_left s size bodies (fault_at n (before + 1) k)
 
-  abbrev seen : Surveyed
-  seen = survey_seen bytes s
+-- options that were met stay
+pub keeps_as : (bytes : List ℕ) (s t : Survey) → t.options ≡ s.options → KeepsOptions bytes s t
+keeps_as bytes s t same = record { kept = λ o e. same ∙ e; passed = λ none. subst (HaveAllPassed bytes) (sym (same ∙ none)) tt }
 
-  pub at_next_row : (row : Row) (next : ℕ) (s' : Survey) → rows rest ≡ with_front row (rows (slice_range bytes next end)) → survey_seen bytes s' ≡ with_row row seen
-      → at_row bytes s n before at end ≡ at_row bytes s' n (before + 1) next end
-  at_next_row row next s' said one_more =
-      let after = joined (placed_on n (before + 1) (rows (slice_range bytes next end))) behind in
-      ap (outlook seen left.items) (rows_next n before rest behind (slice_range bytes next end) row said)
-      ∙ row_counted seen left.items (row_at n before row) after
-      ∙ ap (λ (t : Surveyed). outlook t left.items after) (sym one_more)
+keeps_new : (bytes : List ℕ) (s t u : Survey) (o : Option Options) → t.options ≡ o → KeepsOptions bytes s t → KeepsOptions bytes t u → s.options ≡ None → HaveAllPassed bytes u.options
+keeps_new bytes s t u None e first second none = second.passed e
+keeps_new bytes s t u (Some o) e first second none = subst (HaveAllPassed bytes) (e ∙ sym (second.kept o e)) (first.passed none)
 
-  pub at_last_row : rows rest ≡ record { items = []; fault = None } → at_row bytes s n before at end ≡ at_frame bytes s (n + 1) end
-  at_last_row said = ap (outlook seen left.items) (rows_done n before rest behind said)
+pub keeps_then : (bytes : List ℕ) (s t u : Survey) → KeepsOptions bytes s t → KeepsOptions bytes t u → KeepsOptions bytes s u
+keeps_then bytes s t u first second = record { kept = λ o e. second.kept o (first.kept o e); passed = keeps_new bytes s t u t.options refl first second }
 
-  pub at_bad_row : (k : Kind) → rows rest ≡ record { items = []; fault = Some k } → at_row bytes s n before at end ≡ Err (fault_at n (before + 1) k)
-  at_bad_row k said = ap (outlook seen left.items) (rows_broken n before rest behind k said)
+over_by : (bytes kept : List ℕ) (s t : Survey) (o : Option Options) → s.options ≡ o → IsOver bytes kept s → KeepsOptions bytes s t → IsOver bytes kept t
+over_by bytes kept s t None e over keeps none = over e
+over_by bytes kept s t (Some o) e over keeps none = absurd (let never = sym (keeps.kept o e) ∙ none in cc)
 
--- the frames of a file, one after another
-module _ (bytes : List ℕ) (s : Survey) (n at : ℕ) where
-  abbrev others : List ℕ
-  others = slice_range bytes at (length bytes)
-
-  abbrev found : Surveyed
-  found = survey_seen bytes s
-
-  abbrev bodies : List (List ℕ)
-  bodies = (frames others).items
-
-  pub at_next_frame : (start end : ℕ) (s' : Survey) → frames others ≡ with_front (slice_range bytes start end) (frames (slice_range bytes end (length bytes)))
-      → survey_seen bytes s' ≡ with_frame (slice_range bytes start end) found → at_frame bytes s n at ≡ at_row bytes s' n 0 start end
-  at_next_frame start end s' said one_more =
-      let left = frames (slice_range bytes end (length bytes)) in
-      let body = slice_range bytes start end in
-      let R = joined (frame_rows n body) (rows_on (n + 1) left) in
-      ap (outlook found bodies) (file_next n others (slice_range bytes end (length bytes)) body said)
-      ∙ ap (λ (F : Reading (List ℕ) Kind). outlook found F.items R) said
-      ∙ frame_counted found body left.items R
-      ∙ ap (λ (t : Surveyed). outlook t left.items R) (sym one_more)
-
-  pub at_file_end : at ≡ length bytes → at_frame bytes s n at ≡ Ok found
-  at_file_end e =
-      let none = frames_at_end bytes at (length bytes) e in
-      let nothing : Reading Placed Fault = record { items = []; fault = None } in
-      ap (outlook found bodies) (file_done n others none)
-      ∙ ap (λ (F : Reading (List ℕ) Kind). outlook found F.items nothing) none
-      ∙ nothing_left found
-
-  pub at_bad_frame : (k : Kind) → frames others ≡ record { items = []; fault = Some k } → at_frame bytes s n at ≡ Err (fault_at n 0 k)
-  at_bad_frame k said = ap (outlook found bodies) (file_broken n others k said)
-
--- A survey at its start has all of the file left.
-module _ (file : List ℕ) (s : Survey) where
-  good_head : (h : Head) (end : Option Fault) → ((fault : Fault) → h ≡ Head.Bad fault → ⊥) → fault_under h end ≡ end
-  good_head Head.Nothing end good = refl
-  good_head (Head.First o place) end good = refl
-  good_head (Head.Bad fault) end good = absurd (good fault refl)
-
-  pub begins : ((fault : Fault) → head false file ≡ Head.Bad fault → ⊥) → survey_seen file s ≡ start (length file) (options_in (head false file)) → survey file ≡ at_frame file s 1 0
-  unfolding survey wire_fault
-  begins good fresh =
-      let all = whole_range file (length file) refl in
-      ap (λ (fault : Option Fault). unless fault (surveyed file)) (good_head (head false file) (all_rows file).fault good)
-      ∙ ap (unless (all_rows file).fault) (sym (all_from_start file))
-      ∙ ap (λ (t : Surveyed). outlook t (frames file).items (all_rows file)) (sym fresh)
-      ∙ ap (λ (bytes : List ℕ). outlook (survey_seen file s) (frames bytes).items (rows_on 1 (frames bytes))) (sym all)
-
-  pub bad_head : (fault : Fault) → head false file ≡ Head.Bad fault → survey file ≡ Err fault
-  unfolding survey wire_fault
-  bad_head fault e = ap (λ (h : Head). unless (fault_under h (all_rows file).fault) (surveyed file)) e
+pub over_then : (bytes kept : List ℕ) (s t : Survey) → IsOver bytes kept s → KeepsOptions bytes s t → IsOver bytes kept t
+over_then bytes kept s t = over_by bytes kept s t s.options refl

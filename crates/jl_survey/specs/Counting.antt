@@ -1,16 +1,19 @@
--- How far a survey has come: its numbers so far, and what the rest of the file adds to them.
-use Rattle.std.specs.Prelude.{◌≡◌, ℕ, ◌+◌, ◌≤◌, List, length, slice_range, Option, Some, None, Result, Ok, Err}
+-- How far a survey has come: its numbers so far, and what it comes to with what is left.
+use Rattle.std.specs.Prelude.{◌≡◌, ℕ, ◌+◌, ◌-◌, ◌<◌, ◌≤◌, ◌^◌, List, [], ◌∷◌, ◌++◌, length, map, Option, Some, None, Result, Ok, Err}
 use Rattle.std.specs.Option.{option_map}
 use Rattle.jl_base.specs.Results.{Reading, joined}
+use Rattle.jl_base.specs.Spans.{text_of}
 use Rattle.jl_base.specs.declared.place.Fault.{Fault}
 use Rattle.jl_wire.specs.Fields.{fields}
 use Rattle.jl_rows.specs.declared.options.Options.{Options}
-use Rattle.jl_rows.specs.Written.{Row}
-use Rattle.jl_rows.specs.Files.{Placed, placed_on, rows, rows_on, frames}
+use Rattle.jl_rows.specs.Written.{StreamOptions, Row}
+use Rattle.jl_rows.specs.Files.{Placed, frames, frame_rows, all_rows, rows_then}
+use Rattle.jl_rows.specs.Decoder.{head_of}
 use Rattle.jl_rows.specs.Seen.{options_seen}
 use Rattle.jl_rows.specs.Heads.{ArePassed}
+use Rattle.jl_frames.specs.Index.{Index, AreLaid, last_end}
 use Rattle.jl_survey.specs.declared.numbers.Survey.{Survey}
-use Rattle.jl_survey.specs.Surveys.{Surveyed, unless, one_if, rows_that, metadata_among, metadata_of, survey, is_options, is_triple, is_quad, is_graph_start, is_graph_end, is_namespace, is_name, is_prefix, is_datatype}
+use Rattle.jl_survey.specs.Surveys.{Surveyed, unless, one_if, rows_that, metadata_among, metadata_of, survey, fault_under, options_in, is_options, is_triple, is_quad, is_graph_start, is_graph_end, is_namespace, is_name, is_prefix, is_datatype}
 
 -- What the code's survey stands for.
 abbrev pub survey_seen : List ℕ → Survey → Surveyed
@@ -71,53 +74,91 @@ with_frame body s = record {
   datatypes = s.datatypes;
 }
 
--- these frames and these rows more
-abbrev pub with_all : Surveyed → List (List ℕ) → List Placed → Surveyed
-with_all s bodies ps = record {
-  bytes = s.bytes;
+-- the first fault of these rows: before the file's first row was met, also that of a bad head
+abbrev pub fault_from : Option StreamOptions → Reading Placed Fault → Option Fault
+fault_from None R = fault_under (head_of R.items R.fault) R.fault
+fault_from (Some o) R = R.fault
+
+-- the options of the file's first row, which was met before these rows or is the first of them
+abbrev pub options_from : Option StreamOptions → Reading Placed Fault → Option StreamOptions
+options_from None R = options_in (head_of R.items R.fault)
+options_from (Some o) R = Some o
+
+-- so many bytes, these frames and these rows more
+abbrev pub with_all : Surveyed → ℕ → List (List ℕ) → Reading Placed Fault → Surveyed
+with_all s size bodies R = record {
+  bytes = s.bytes + size;
   frames = s.frames + length bodies;
   metadata = s.metadata + metadata_of bodies;
-  options = s.options;
-  option_rows = s.option_rows + rows_that is_options ps;
-  triples = s.triples + rows_that is_triple ps;
-  quads = s.quads + rows_that is_quad ps;
-  graph_starts = s.graph_starts + rows_that is_graph_start ps;
-  graph_ends = s.graph_ends + rows_that is_graph_end ps;
-  namespaces = s.namespaces + rows_that is_namespace ps;
-  names = s.names + rows_that is_name ps;
-  prefixes = s.prefixes + rows_that is_prefix ps;
-  datatypes = s.datatypes + rows_that is_datatype ps;
+  options = options_from s.options R;
+  option_rows = s.option_rows + rows_that is_options R.items;
+  triples = s.triples + rows_that is_triple R.items;
+  quads = s.quads + rows_that is_quad R.items;
+  graph_starts = s.graph_starts + rows_that is_graph_start R.items;
+  graph_ends = s.graph_ends + rows_that is_graph_end R.items;
+  namespaces = s.namespaces + rows_that is_namespace R.items;
+  names = s.names + rows_that is_name R.items;
+  prefixes = s.prefixes + rows_that is_prefix R.items;
+  datatypes = s.datatypes + rows_that is_datatype R.items;
 }
 
--- what a survey comes to with these frames and rows left, of which a fault may be the end
-abbrev pub outlook : Surveyed → List (List ℕ) → Reading Placed Fault → Result Surveyed Fault
-outlook s bodies R = unless R.fault (with_all s bodies R.items)
-
--- the same with the file left from the frame of a number on, which begins at a place
-abbrev pub at_frame : List ℕ → Survey → ℕ → ℕ → Result Surveyed Fault
-at_frame bytes s number at =
-    let left = frames (slice_range bytes at (length bytes)) in
-    outlook (survey_seen bytes s) left.items (rows_on number left)
-
--- the same with the frame of a number left from a place on, behind so many of its rows, and the frames behind it
-abbrev pub at_row : List ℕ → Survey → ℕ → ℕ → ℕ → ℕ → Result Surveyed Fault
-at_row bytes s number before at end =
-    let left = frames (slice_range bytes end (length bytes)) in
-    outlook (survey_seen bytes s) left.items (joined (placed_on number before (rows (slice_range bytes at end))) (rows_on (number + 1) left))
+-- What a survey comes to with so many bytes, these frames and these rows left, of which a fault may be the end.
+abbrev pub outlook : Surveyed → ℕ → List (List ℕ) → Reading Placed Fault → Result Surveyed Fault
+outlook s size bodies R = unless (fault_from s.options R) (with_all s size bodies R)
 
 -- A part of the survey comes on, or to the fault.
 abbrev pub ComesOn : Result Surveyed Fault → Result Surveyed Fault → Result (Unit {0}) Fault → Type 0
 ComesOn said left (Ok _) = said ≡ left
 ComesOn said left (Err fault) = said ≡ Err fault
 
--- One frame on, or to the file's end, or to the fault.
-abbrev pub ComesToFrame : List ℕ → Survey → ℕ → ℕ → Survey → Result (Option ℕ) Fault → Type 0
-ComesToFrame bytes s number at s' (Ok (Some next)) = at_frame bytes s number at ≡ at_frame bytes s' (number + 1) next
-ComesToFrame bytes s number at s' (Ok None) = at_frame bytes s number at ≡ Ok (survey_seen bytes s')
-ComesToFrame bytes s number at s' (Err fault) = at_frame bytes s number at ≡ Err fault
+-- The options of a survey are those of a row of these bytes, or were carried into others.
+abbrev pub IsOver : List ℕ → List ℕ → Survey → Type 0
+IsOver bytes kept s = s.options ≡ None → kept ≡ bytes
 
--- no sort has more than so many rows
+-- These rows are taken, whatever is left after them.
+abbrev pub TakesRows : List ℕ → Survey → Reading Placed Fault → Survey → Result (Unit {0}) Fault → Type 0
+TakesRows bytes s R s' result = (kept : List ℕ) (size : ℕ) (bodies : List (List ℕ)) (B : Reading Placed Fault) → IsOver bytes kept s
+    → ComesOn (outlook (survey_seen kept s) size bodies (joined R B)) (outlook (survey_seen kept s') size bodies B) result
+
+-- A frame of this number is taken.
+abbrev pub TakesFrame : List ℕ → Survey → ℕ → List ℕ → Survey → Result (Unit {0}) Fault → Type 0
+TakesFrame bytes s number body s' result = (kept : List ℕ) (size : ℕ) (bodies : List (List ℕ)) (B : Reading Placed Fault) → IsOver bytes kept s
+    → ComesOn (outlook (survey_seen kept s) size (body ∷ bodies) (joined (frame_rows number body) B)) (outlook (survey_seen kept s') size bodies B) result
+
+-- The frames of an index are taken.
+abbrev pub TakesFrames : List ℕ → Survey → Index → Survey → Result (Unit {0}) Fault → Type 0
+TakesFrames bytes s index s' result = (kept : List ℕ) (size : ℕ) (bodies : List (List ℕ)) (B : Reading Placed Fault) → IsOver bytes kept s
+    → ComesOn (outlook (survey_seen kept s) size (map (text_of bytes) index.bodies ++ bodies) (rows_then index.first (map (text_of bytes) index.bodies) B)) (outlook (survey_seen kept s') size bodies B) result
+
+-- the fault after some frames, or else what follows
+abbrev pub ended : Option Fault → Reading Placed Fault → Reading Placed Fault
+ended None B = B
+ended (Some fault) B = record { items = []; fault = Some fault }
+
+-- the frames of an index are frames of these bytes
+abbrev pub AreFramesOf : List ℕ → Index → Type 0
+AreFramesOf bytes index = (last : ℕ) × AreLaid index.lo index.bodies last × (last ≤ length bytes)
+
+-- how many bytes they take with their lengths
+abbrev pub size_of : Index → ℕ
+size_of index = last_end index.lo index.bodies - index.lo
+
+-- A window is taken: its bytes, its frames and its tail fault.
+abbrev pub TakesWindow : List ℕ → Survey → Index → Survey → Result (Unit {0}) Fault → Type 0
+TakesWindow bytes s index s' result = (kept : List ℕ) (size : ℕ) (bodies : List (List ℕ)) (B : Reading Placed Fault) → IsOver bytes kept s
+    → ComesOn (outlook (survey_seen kept s) (size_of index + size) (map (text_of bytes) index.bodies ++ bodies) (rows_then index.first (map (text_of bytes) index.bodies) (ended index.tail B)))
+    (outlook (survey_seen kept s') size bodies B) result
+
+-- The options that a survey had stay, and new ones passed the checks of a first row.
+pub record KeepsOptions (bytes : List ℕ) (s s' : Survey) : Type 0 where
+  pub kept : (o : Options) → s.options ≡ Some o → s'.options ≡ Some o
+  pub passed : s.options ≡ None → HaveAllPassed bytes s'.options
+
+-- no number of a survey is greater
 pub record AreFew (most : ℕ) (s : Survey) : Type 0 where
+  pub bytes : s.bytes ≤ most
+  pub frames : s.frames ≤ most
+  pub metadata : s.metadata ≤ most
   pub option_rows : s.option_rows ≤ most
   pub triples : s.triples ≤ most
   pub quads : s.quads ≤ most
@@ -128,13 +169,25 @@ pub record AreFew (most : ℕ) (s : Survey) : Type 0 where
   pub prefixes : s.prefixes ≤ most
   pub datatypes : s.datatypes ≤ most
 
--- Nothing but the length and the options is known yet.
-abbrev pub empty : ℕ → Option Options → Survey
-empty bytes options = record {
-  bytes = bytes;
+-- each number and so many add up to less than 2^63
+abbrev pub HasRoom : ℕ → Survey → Type 0
+HasRoom n s = (most : ℕ) × AreFew most s × (most + n < 2 ^ 63)
+
+-- so many may be counted, in 64 bits
+abbrev pub Fits : ℕ → Survey → Type 0
+Fits n s = (most : ℕ) × AreFew most s × (most + n < 2 ^ 64 - 1)
+
+-- no number grew by more than so many
+abbrev pub Grew : ℕ → Survey → Survey → Type 0
+Grew n s s' = (most : ℕ) → AreFew most s → AreFew (most + n) s'
+
+-- Nothing was counted yet.
+abbrev pub empty : Survey
+empty = record {
+  bytes = 0;
   frames = 0;
   metadata = 0;
-  options = options;
+  options = None;
   option_rows = 0;
   triples = 0;
   quads = 0;
@@ -146,14 +199,6 @@ empty bytes options = record {
   datatypes = 0;
 }
 
--- A survey begins, or has come to the fault of a bad head.
-pub record HasBegun (bytes : List ℕ) (s : Survey) : Type 0 where
-  pub all_left : survey bytes ≡ at_frame bytes s 1 0
-  pub frames : s.frames ≡ 0
-  pub metadata : s.metadata ≡ 0
-  pub few : AreFew 0 s
-  pub passed : HaveAllPassed bytes s.options
-
-abbrev pub Begins : List ℕ → Result Survey Fault → Type 0
-Begins bytes (Ok s) = HasBegun bytes s
-Begins bytes (Err fault) = survey bytes ≡ Err fault
+-- All of a file is left to a new survey.
+abbrev pub BeginsAll : Survey → Type 0
+BeginsAll s = (kept file : List ℕ) → outlook (survey_seen kept s) (length file) (frames file).items (all_rows file) ≡ survey file

@@ -1,3 +1,4 @@
 pub mod Surveys
 pub mod Counting
 pub mod Reports
+pub mod Windowed

@@ -1,19 +1,19 @@
 //! The numbers of a survey, one row more at a time.
 ghost use Rattle.std.specs.Prelude.{ℕ, ◌≡◌, ◌-◌, ◌^◌, List};
 ghost use Rattle.jl_rows.specs.Seen.{row_seen};
-ghost use Rattle.jl_survey.specs.Counting.{AreFew, empty, survey_seen, with_row};
+ghost use Rattle.jl_survey.specs.Counting.{AreFew, BeginsAll, Grew, empty, survey_seen, with_row};
 
 use jl_rows::{Options, Row, Table};
 
-/// How many of each there are in a file.
+/// How many of each there are in the windows of a file so far.
 #[derive(Clone, Copy, Debug)]
 pub struct Survey {
-    /// The length of the file.
+    /// The bytes of all frames with their lengths: the length of a file without a fault.
     pub bytes: u64,
     pub frames: u64,
     /// The entries of metadata of all frames.
     pub metadata: u64,
-    /// The options of the first row. A file without rows has none.
+    /// The options of the file's first row, once it was met.
     pub options: Option<Options>,
     pub option_rows: u64,
     pub triples: u64,
@@ -27,15 +27,16 @@ pub struct Survey {
 }
 
 impl Survey {
-    // Nothing but the length and the options is known yet.
-    pub(crate) fn new(bytes: u64, options: Option<Options>) -> Survey
-        ensures { result ≡ empty bytes options }
+    /// The survey of no bytes. Takes no memory.
+    pub fn new() -> Survey
+        ensures begins { BeginsAll result }
+        ensures empty { result ≡ empty }
     {
         Survey {
-            bytes,
+            bytes: 0,
             frames: 0,
             metadata: 0,
-            options,
+            options: None,
             option_rows: 0,
             triples: 0,
             quads: 0,
@@ -52,8 +53,10 @@ impl Survey {
     #[inline]
     pub(crate) fn add(&mut self, row: &Row)
         requires { AreFew (2 ^ 64 - 2) self.old }
-        ensures more { (bytes : List ℕ) → survey_seen bytes self.new ≡ with_row (row_seen bytes row.now) (survey_seen bytes self.old) }
+        ensures more { (kept bytes : List ℕ) → survey_seen kept self.new ≡ with_row (row_seen bytes row.now) (survey_seen kept self.old) }
         ensures options { self.new.options ≡ self.old.options }
+        ensures few { Grew 1 self.old self.new }
+        ensures bytes { self.new.bytes ≡ self.old.bytes }
     {
         match row {
             Row::Options(_) => self.option_rows += 1,

@@ -1,7 +1,6 @@
-ghost use Rattle.std.specs.Prelude.{◌<◌};
-
 use crate::{report_inspect, report_valid, survey};
 use jl_base::{Space, Text};
+use jl_frames::index;
 use jl_text::{Notice, report_fault};
 use std::alloc::Global;
 use std::process::Abort;
@@ -22,7 +21,8 @@ fn told(rt: &impl Abort, alloc: Global, pieces: &[&[u8]]) -> Result<Text, Fail> 
     }
     let space = Space::from_bytes(alloc, &bytes)?;
     assert!(rt; space.bytes().len() < 1024);
-    match survey(&space) {
+    let frames = index(alloc, &space)?;
+    match survey(&space, &frames) {
         Ok(found) => Ok(report_inspect(alloc, &found, &space)?),
         Err(fault) => {
             let line = report_fault(Notice::Malformed { file: 1, fault });

@@ -1,34 +1,86 @@
-//! The walk over a file's frames and rows, which resolves nothing.
-ghost use Rattle.std.specs.Prelude.{◌≡◌, ◌+◌, ◌-◌, ◌<◌, ◌≤◌, ◌^◌, IfOk, IfSome, OnOk, length, slice_range};
+//! The walk over frames and rows, which resolves nothing.
+ghost use Rattle.std.specs.Prelude.{◌≡◌, ◌+◌, ◌-◌, ◌*◌, ◌<◌, ◌≤◌, ◌^◌, [], ◌∷◌, List, ℕ, None, IfOk, OnOk, length, slice_range};
 ghost use Rattle.jl_base.specs.Results.{Gives};
-ghost use Rattle.jl_rows.specs.Files.{fault_at};
+ghost use Rattle.jl_base.specs.Spans.{IsInside, text_of};
+ghost use Rattle.jl_rows.specs.Files.{Placed, placed_on, rows};
+ghost use Rattle.jl_rows.specs.Seen.{HasRow, row_seen};
+ghost use Rattle.jl_frames.specs.Index.{IsIndex};
 ghost use Rattle.jl_survey.specs.Surveys as spec;
-ghost use Rattle.jl_survey.specs.Counting.{AreFew, Begins, ComesOn, ComesToFrame, HaveAllPassed, at_frame, at_row, survey_seen, with_frame};
+ghost use Rattle.jl_survey.specs.Counting.{AreFew, AreFramesOf, Fits, Grew, HasRoom, HaveAllPassed, KeepsOptions, TakesFrame, TakesFrames, TakesRows, TakesWindow, size_of, survey_seen, with_frame};
 
+use crate::first_row::first_row_checked;
 use crate::metadata::metadata_between;
 use crate::numbers::Survey;
-use jl_base::{Fault, Kind, Place, Space};
-use jl_rows::{Head, Row, file_head, next_frame, next_row_into};
-
-// A fault at a row of a frame, or at row 0, which is the frame itself.
-fn malformed(frame: u64, row: u32, kind: Kind) -> Fault
-    ensures { result ≡ fault_at frame row kind }
-{
-    Fault {
-        place: Place { frame, row },
-        kind,
-    }
-}
+use jl_base::{Fault, Place, Space, Span};
+use jl_frames::Frames;
+use jl_rows::{Row, next_row_into};
 
 impl Survey {
-    // The survey of a file at its start.
-    fn begun(bytes: &[u8]) -> Result<Survey, Fault>
-        ensures { Begins bytes.now result }
+    // The file's first row, which has the options.
+    fn take_first(&mut self, bytes: &[u8], row: &Row, place: Place) -> Result<(), Fault>
+        requires first { self.old.options ≡ None }
+        requires inside { HasRow bytes.now row.now }
+        requires few { AreFew (2 ^ 64 - 2) self.old }
+        ensures comes { TakesRows bytes.now self.old (record { items = record { place = place; row = row_seen bytes.now row.now } ∷ []; fault = None }) self.new result }
+        ensures options { OnOk result (KeepsOptions bytes.now self.old self.new) }
+        ensures few { OnOk result (Grew 1 self.old self.new) }
+        ensures bytes { self.new.bytes ≡ self.old.bytes }
     {
-        match file_head(bytes) {
-            Head::Empty => Ok(Survey::new(bytes.len() as u64, None)),
-            Head::First(options, _) => Ok(Survey::new(bytes.len() as u64, Some(options))),
-            Head::Bad(fault) => Err(fault),
+        match first_row_checked(bytes, *row) {
+            Ok(options) => {
+                self.options = Some(options);
+                self.add(row);
+                Ok(())
+            }
+            Err(kind) => Err(Fault { place, kind }),
+        }
+    }
+
+    // One row more.
+    #[inline]
+    fn take(&mut self, bytes: &[u8], row: &Row, place: Place) -> Result<(), Fault>
+        requires inside { HasRow bytes.now row.now }
+        requires few { AreFew (2 ^ 64 - 2) self.old }
+        ensures comes { TakesRows bytes.now self.old (record { items = record { place = place; row = row_seen bytes.now row.now } ∷ []; fault = None }) self.new result }
+        ensures options { OnOk result (KeepsOptions bytes.now self.old self.new) }
+        ensures few { OnOk result (Grew 1 self.old self.new) }
+        ensures bytes { self.new.bytes ≡ self.old.bytes }
+    {
+        if self.options.is_none() {
+            return self.take_first(bytes, row, place);
+        }
+        self.add(row);
+        Ok(())
+    }
+
+    // The rows of the frame of a number.
+    fn rows(&mut self, bytes: &[u8], start: usize, end: usize, number: u64) -> Result<(), Fault>
+        requires start { start ≤ end }
+        requires inside { end ≤ length bytes.now }
+        requires short { end - start < 2 ^ 32 }
+        requires few { Fits (end - start) self.old }
+        ensures comes { TakesRows bytes.now self.old (placed_on number 0 (rows (slice_range bytes.now start end))) self.new result }
+        ensures options { OnOk result (KeepsOptions bytes.now self.old self.new) }
+        ensures few { OnOk result (Grew (end - start) self.old self.new) }
+        ensures bytes { self.new.bytes ≡ self.old.bytes }
+    {
+        let mut at = start;
+        let mut before = 0;
+        let mut row = Row::GraphEnd;
+        'by_row: loop {
+            let place = Place {
+                frame: number,
+                row: before + 1,
+            };
+            match next_row_into(bytes, at, end, &mut row) {
+                Ok(Some(next)) => {
+                    self.take(bytes, &row, place)?;
+                    at = next;
+                    before += 1;
+                }
+                Ok(None) => return Ok(()),
+                Err(kind) => return Err(Fault { place, kind }),
+            }
         }
     }
 
@@ -37,99 +89,78 @@ impl Survey {
         requires start { start ≤ end }
         requires inside { end ≤ length bytes.now }
         requires short { end - start < 2 ^ 32 }
-        requires frames { self.old.frames < start }
-        requires metadata { self.old.metadata ≤ start }
-        ensures more { survey_seen bytes.now self.new ≡ with_frame (slice_range bytes.now start end) (survey_seen bytes.now self.old) }
+        requires few { Fits (end - start + 1) self.old }
+        ensures more { (kept : List ℕ) → survey_seen kept self.new ≡ with_frame (slice_range bytes.now start end) (survey_seen kept self.old) }
         ensures options { self.new.options ≡ self.old.options }
-        ensures metadata { self.new.metadata ≤ end }
+        ensures metadata { self.new.metadata ≤ self.old.metadata + (end - start) }
+        ensures bytes { self.new.bytes ≡ self.old.bytes }
     {
         self.frames += 1;
         self.metadata += metadata_between(bytes, start, end);
     }
 
-    // The rows of the frame of a number, which ends at `end`.
-    fn rows(&mut self, bytes: &[u8], start: usize, end: usize, number: u64) -> Result<(), Fault>
-        requires start { start ≤ end }
-        requires inside { end ≤ length bytes.now }
-        requires short { end - start < 2 ^ 32 }
-        requires few { AreFew start self.old }
-        ensures comes { ComesOn (at_row bytes.now self.old number 0 start end) (at_frame bytes.now self.new (number + 1) end) result }
-        ensures few { OnOk result (AreFew end self.new) }
-        ensures frames { self.new.frames ≡ self.old.frames }
-        ensures metadata { self.new.metadata ≡ self.old.metadata }
-        ensures options { self.new.options ≡ self.old.options }
+    // The frame of a number.
+    fn frame(&mut self, bytes: &[u8], body: Span, number: u64) -> Result<(), Fault>
+        requires inside { IsInside bytes.now body }
+        requires few { Fits (2 * (body.len + 1)) self.old }
+        ensures comes { TakesFrame bytes.now self.old number (text_of bytes.now body) self.new result }
+        ensures options { OnOk result (KeepsOptions bytes.now self.old self.new) }
+        ensures few { OnOk result (Grew (2 * (body.len + 1)) self.old self.new) }
+        ensures bytes { self.new.bytes ≡ self.old.bytes }
     {
-        let mut place = start;
-        let mut before = 0;
-        let mut row = Row::GraphEnd;
-        'by_row: loop {
-            match next_row_into(bytes, place, end, &mut row) {
-                Ok(Some(next)) => {
-                    self.add(&row);
-                    place = next;
-                    before += 1;
-                }
-                Ok(None) => return Ok(()),
-                Err(kind) => return Err(malformed(number, before + 1, kind)),
-            }
-        }
-    }
-
-    // The frame of a number at a place of the file: the place behind it, or None at the file's end.
-    fn frame(&mut self, bytes: &[u8], at: usize, number: u64) -> Result<Option<usize>, Fault>
-        requires start { at ≤ length bytes.now }
-        requires few { AreFew at self.old }
-        requires frames { self.old.frames ≤ at }
-        requires metadata { self.old.metadata ≤ at }
-        ensures comes { ComesToFrame bytes.now self.old number at self.new result }
-        ensures within { IfOk result (λ found. IfSome found (λ next. (at < next) × (next ≤ length bytes.now))) }
-        ensures few { IfOk result (λ found. IfSome found (λ next. AreFew next self.new)) }
-        ensures frames { IfOk result (λ found. IfSome found (λ next. self.new.frames ≤ next)) }
-        ensures metadata { IfOk result (λ found. IfSome found (λ next. self.new.metadata ≤ next)) }
-        ensures options { self.new.options ≡ self.old.options }
-    {
-        let (start, end) = match next_frame(bytes, at, bytes.len()) {
-            Ok(Some(body)) => body,
-            Ok(None) => return Ok(None),
-            Err(kind) => return Err(malformed(number, 0, kind)),
-        };
+        let start = body.at as usize;
+        let end = start + body.len as usize;
         self.add_frame(bytes, start, end);
-        self.rows(bytes, start, end, number)?;
-        Ok(Some(end))
+        self.rows(bytes, start, end, number)
     }
 
-    // All frames of the file.
-    fn file(&mut self, bytes: &[u8]) -> Result<(), Fault>
-        requires few { AreFew 0 self.old }
-        requires frames { self.old.frames ≡ 0 }
-        requires metadata { self.old.metadata ≡ 0 }
-        ensures comes { Gives (λ _. survey_seen bytes.now self.new) result (at_frame bytes.now self.old 1 0) }
-        ensures options { self.new.options ≡ self.old.options }
+    // The frames of a window.
+    fn frames_in(&mut self, bytes: &[u8], frames: &Frames) -> Result<(), Fault>
+        requires laid { AreFramesOf bytes.now frames.now }
+        requires few { Fits (2 * size_of frames.now) self.old }
+        ensures comes { TakesFrames bytes.now self.old frames.now self.new result }
+        ensures options { OnOk result (KeepsOptions bytes.now self.old self.new) }
+        ensures few { OnOk result (Grew (2 * size_of frames.now) self.old self.new) }
+        ensures bytes { self.new.bytes ≡ self.old.bytes }
     {
-        let mut place = 0;
-        let mut number = 1;
-        'by_frame: while let Some(next) = self.frame(bytes, place, number)? {
-            place = next;
-            number += 1;
+        for i in 0..frames.count() {
+            let body = frames.frame(i);
+            let number = frames.first() + i;
+            self.frame(bytes, body, number)?;
         }
+        Ok(())
+    }
+
+    /// One window more of a file, after those before it: what there is in its frames. Where no row was met before, its
+    /// first one is the file's, and has the options, which lie in this space. Rows are read and not resolved, so that a
+    /// reference to no entry is no fault, nor are options that differ from the first ones. It refuses with the first
+    /// fault of the window: of its rows, of the file's first row, or after its frames. After a refusal the survey isn't
+    /// used again. Takes no memory.
+    pub fn more(&mut self, space: &Space, frames: &Frames) -> Result<(), Fault>
+        requires laid { AreFramesOf space.now frames.now }
+        requires few { HasRoom (size_of frames.now) self.old }
+        ensures comes { TakesWindow space.now self.old frames.now self.new result }
+        ensures options { OnOk result (KeepsOptions space.now self.old self.new) }
+        ensures few { OnOk result (Grew (2 * size_of frames.now) self.old self.new) }
+        ensures bytes { OnOk result (self.new.bytes ≡ self.old.bytes + size_of frames.now) }
+    {
+        self.frames_in(space.bytes(), frames)?;
+        if let Some(fault) = frames.tail() {
+            return Err(fault);
+        }
+        self.bytes += frames.bytes();
         Ok(())
     }
 }
 
-fn survey_of(bytes: &[u8]) -> Result<Survey, Fault>
-    ensures exact { Gives (survey_seen bytes.now) result (spec.survey bytes.now) }
-    ensures passed { IfOk result (λ s. HaveAllPassed bytes.now s.options) }
-{
-    let mut survey = Survey::begun(bytes)?;
-    survey.file(bytes)?;
-    Ok(survey)
-}
-
-/// What there is in a file of these bytes. Rows are read and not resolved, so that a reference to no entry is no fault,
-/// nor are options that differ from the first ones. Takes no memory.
-pub fn survey(space: &Space) -> Result<Survey, Fault>
+/// What there is in a file of which this is the index: a survey of one window. Takes no memory.
+pub fn survey(space: &Space, frames: &Frames) -> Result<Survey, Fault>
+    requires index { IsIndex space.now frames.now }
+    requires short { length space.now < 2 ^ 63 }
     ensures exact { Gives (survey_seen space.now) result (spec.survey space.now) }
     ensures passed { IfOk result (λ s. HaveAllPassed space.now s.options) }
 {
-    survey_of(space.bytes())
+    let mut survey = Survey::new();
+    survey.more(space, frames)?;
+    Ok(survey)
 }

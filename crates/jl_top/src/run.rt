@@ -14,6 +14,7 @@ use crate::gather::gather;
 use crate::{Command, Gate, Job, job};
 use jl_base::{Seq, Shelf, Source, Space, Text, write_all};
 use jl_decode::{Ended, count_items, write_lines};
+use jl_frames::index;
 use jl_lines::Refused;
 use jl_survey::{report_inspect, report_valid, survey};
 use jl_text::Notice;
@@ -80,9 +81,13 @@ fn write_valid<R: Threads + Sync, K: Shelf, G: Gate>(
 
 // The report of a file whose rows are read.
 fn write_survey<K: Shelf>(alloc: Global, file: &Space, out: &mut K) -> Result<(), Notice>
+    requires { length file.now ≤ most_bytes }
     ensures { Meets (inspected (spec.survey file.now)) (K.held out.old) (K.held out.new) (K.faults out.old) (K.faults out.new) result }
 {
-    let survey = match survey(file) {
+    let Ok(frames) = index(alloc, file) else {
+        return Err(Notice::NoMemory);
+    };
+    let survey = match survey(file, &frames) {
         Ok(survey) => survey,
         Err(fault) => return Err(Notice::Malformed { file: 1, fault }),
     };

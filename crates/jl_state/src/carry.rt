@@ -2,7 +2,7 @@
 ghost use Rattle.std.specs.Prelude.{◌≡◌, ◌++◌, map, IfOk, OnErr, OnOk};
 ghost use Rattle.jl_rows.specs.Carries.{Grows};
 ghost use Rattle.jl_rows.specs.Seen.{options_seen};
-ghost use Rattle.jl_state.specs.Carries.{CarriesMaybe, CarriesSlots, CarriesState, CarriesTail, CarriesTerm, MeansTheSame};
+ghost use Rattle.jl_state.specs.Carries.{CarriesMaybe, CarriesSlots, CarriesState, CarriesTail, CarriesTerm};
 ghost use Rattle.jl_state.specs.Extents.{slot_seen, AreSound, IsHeld, IsSound};
 ghost use Rattle.jl_state.specs.KnownTerms.{known_value, tail_value, AreParts, HasKnown, HasTail};
 ghost use Rattle.jl_state.specs.Lawful.{maybe_value, state_seen, HasMaybe, IsLawful};
@@ -199,9 +199,10 @@ impl State {
     }
 }
 
-/// Makes a space hold the texts of a state alone, so that the next window's frames can follow them. They are written
-/// aside first, since they may lie anywhere in the space. Takes a copy of the state's tables for the time of the call,
-/// and room for its texts in `aside`, which keeps it. On a refusal the state's texts may be gone: it isn't used again.
+/// Makes a space hold the texts of a state alone, so that the next window's frames can follow them: whatever follows,
+/// the state means the same. They are written aside first, since they may lie anywhere in the space. Takes a copy of the
+/// state's tables for the time of the call, and room for its texts in `aside`, which keeps it. On a refusal the state's
+/// texts may be gone: it isn't used again.
 pub fn bring_texts(
     alloc: Global,
     state: &mut State,
@@ -209,7 +210,7 @@ pub fn bring_texts(
     aside: &mut Space,
 ) -> Result<(), AllocError>
     requires { IsLawful space.old state.old }
-    ensures same { OnOk result (MeansTheSame space.old state.old space.new state.new) }
+    ensures carries { OnOk result (CarriesState space.old space.new state.old state.new) }
     ensures alone { OnOk result (space.new ≡ texts_of (options_seen space.old state.old.options) (state_seen space.old state.old)) }
 {
     aside.cut(0);

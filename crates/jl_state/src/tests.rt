@@ -1,6 +1,8 @@
 ghost use Rattle.std.specs.Prelude.{◌≤◌, ◌^◌, length};
 ghost use Rattle.jl_state.specs.Lawful.{HasMaybe};
 
+mod carrying;
+
 use crate::{Known, State, Stated, Stop};
 use jl_base::{Kind, Span};
 use jl_rows::{Options, next_row_at};

@@ -21,7 +21,7 @@ use crate::demand::{Demand, Kept, Need};
 use crate::growing::Last;
 use crate::id_word::RefWords;
 use crate::marks::Marks;
-use crate::relative_id::{RelativeId, is_reference_in, size_of};
+use crate::relative_id::{RelativeId, size_of};
 use crate::summary::Write;
 use jl_base::{Fault, Kind, Place};
 use jl_rows::{Options, RawIri, RawTail, RawTerm, RawTriple, Table, triple_term_at};
@@ -45,9 +45,9 @@ pub(crate) struct Asker<'a, 'b> {
 }
 
 impl Asker<'_, '_> {
-    // One more demand.
+    /// One more demand.
     #[inline]
-    fn push(&self, demands: &mut Vec<Demand>, kind: Kind, need: Need) -> Result<(), AllocError>
+    pub fn push(&self, demands: &mut Vec<Demand>, kind: Kind, need: Need) -> Result<(), AllocError>
         ensures demands { OnOk result (demands_seen demands.new.items ≡ demands_seen demands.old.items
             ++ record { moment = self.now.moment; fault = record { place = self.now.here.now.place.now; kind = kind }; need = need_seen need } ∷ []) }
         ensures kept { OnErr result (demands.new.items ≡ demands.old.items) }
@@ -130,60 +130,6 @@ impl Asker<'_, '_> {
             return Ok(());
         }
         self.push(demands, Kind::BadEntry, Need::Fits(table, id))?;
-        Ok(())
-    }
-
-    // Asks for the slot of a reference. It stands apart, since a run asks for each slot once at most.
-    #[inline(never)]
-    fn ask_slot(
-        &self,
-        demands: &mut Vec<Demand>,
-        marks: &mut Marks,
-        table: Table,
-        id: RelativeId,
-    ) -> Result<(), AllocError>
-        requires good { AreAsked (earlier_of self.now) (demands_seen demands.old.items) marks.old }
-        requires made { cutting.IsMadeReference table (id_seen id) }
-        ensures asks { OnOk result (Asks (options_of self.now.here.now) (earlier_of self.now) self.now.here.now.place.now (demands_seen demands.old.items)
-            (small.demand self.now.here.now.place.now Kind.NoEntry (sums.Filled table (id_seen id)) ∷ []) (demands_seen demands.new.items) (Ok tt)) }
-        ensures good { AreAsked (earlier_of self.now) (demands_seen demands.new.items) marks.new }
-    {
-        self.push(demands, Kind::NoEntry, Need::Filled(table, id))?;
-        marks.mark_slot(table, id);
-        Ok(())
-    }
-
-    // Whether a reference of this id can be one to its table.
-    #[inline(always)]
-    fn is_reference(&self, table: Table, id: RelativeId) -> bool
-        ensures { result ≡ cutting.is_reference_in (options_of self.now.here.now) table (id_seen id) }
-    {
-        is_reference_in(self.here.options, table, id)
-    }
-
-    // The slot of a reference must be filled, which an entry of the run may have done.
-    #[inline(always)]
-    fn filled(
-        &self,
-        demands: &mut Vec<Demand>,
-        marks: &mut Marks,
-        table: Table,
-        id: RelativeId,
-    ) -> Result<(), Stop>
-        requires good { AreAsked (earlier_of self.now) (demands_seen demands.old.items) marks.old }
-        requires made { cutting.IsMadeReference table (id_seen id) }
-        ensures asks { Asks (options_of self.now.here.now) (earlier_of self.now) self.now.here.now.place.now (demands_seen demands.old.items)
-            (small.demand self.now.here.now.place.now Kind.NoEntry (sums.Filled table (id_seen id)) ∷ []) (demands_seen demands.new.items) result }
-        ensures good { AreAsked (earlier_of self.now) (demands_seen demands.new.items) marks.new }
-        ensures fits { OnOk result (cutting.is_reference_in (options_of self.now.here.now) table (id_seen id) ≡ true) }
-    {
-        if !self.is_reference(table, id) {
-            return Err(Stop::Fault(Kind::NoEntry));
-        }
-        if marks.has_slot(table, id) {
-            return Ok(());
-        }
-        self.ask_slot(demands, marks, table, id)?;
         Ok(())
     }
 

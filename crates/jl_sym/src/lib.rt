@@ -17,6 +17,7 @@ mod position;
 mod putting;
 mod relative_id;
 mod rows;
+mod slots;
 mod steps;
 mod summary;
 mod summing;

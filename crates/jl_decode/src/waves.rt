@@ -30,12 +30,15 @@ use std::thread::Threads;
 /// How many workers there may be.
 const MOST_WORKERS: u32 = 64;
 
-/// How many runs are shared out at once at most, as many as a wave has.
-const MOST_RUNS: u64 = 64;
+/// How many runs are shared out at once at most: what is kept of a run beside its text is then small against a wave.
+const MOST_RUNS: u64 = 256;
 
-/// How many runs are shared out at once for each worker. What is kept of them until all are decoded is their text, and
-/// what they do: fewer take less memory, and more make workers wait less for the last of them.
-const RUNS_EACH: u64 = 8;
+/// How many runs are shared out at once for each worker at least, where so many are left.
+const RUNS_EACH: u64 = 4;
+
+/// How many bytes are shared out at once, where runs are small. What is kept of them until all are decoded is their text,
+/// and what they do: fewer take less memory, and more make workers wait less for one another.
+const WAVE_BYTES: u64 = 1 << 23;
 
 // The items of all frames, wave by wave.
 fn decode_waves<K: Sink>(
@@ -111,14 +114,15 @@ fn keep_as_many(kept: &mut Vec<Kept<LineTools>>, runs: u64)
     }
 }
 
-// How many runs are shared out at once, of those that are left: so many for each worker, and no more than a wave.
-fn portion(workers: u64, left: u64) -> u64
+// How many runs are shared out at once, of those that are left, where a run has so many bytes.
+fn portion(workers: u64, left: u64, run_bytes: u64) -> u64
     requires workers { workers ≤ 64 }
     ensures within { result ≤ left }
     ensures some { 0 < workers → 0 < left → 0 < result }
     ensures few { result ≤ 2 ^ 32 }
 {
-    left.min(MOST_RUNS).min(RUNS_EACH * workers)
+    let wanted = (WAVE_BYTES / run_bytes.max(1)).max(RUNS_EACH * workers);
+    left.min(MOST_RUNS).min(wanted)
 }
 
 // The items of all frames, portion by portion, each by several workers.
@@ -141,9 +145,10 @@ fn share_waves<R: Threads + Sync, K: Sink, G: Gate>(
 {
     let mut kept = kept;
     let all = file.plan.runs();
+    let run_bytes = file.space.bytes().len() as u64 / all.max(1);
     let mut done = 0;
     'by_portion: while done < all {
-        let runs = portion(kept.len() as u64, all - done);
+        let runs = portion(kept.len() as u64, all - done, run_bytes);
         // Only the last portion may have few runs.
         keep_as_many(&mut kept, runs);
         kept = share_wave::<R, Brand, K, G>(

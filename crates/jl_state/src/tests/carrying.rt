@@ -9,23 +9,6 @@ use std::alloc::{AllocError, Global};
 use std::process::Abort;
 use std::test::Fail;
 
-// The options of a file of this physical type, with tables of eight.
-fn options(physical: u32) -> Options {
-    let form = loose(physical);
-    Options {
-        stream_name: Span { at: 0, len: 0 },
-        physical: form.physical,
-        generalized: form.generalized,
-        star: form.star,
-        names: 8,
-        prefixes: 8,
-        datatypes: 8,
-        logical: 0,
-        version: form.version,
-        strict: form.strict,
-    }
-}
-
 // All rows, none of which is refused.
 fn go(alloc: Global, rows: &[u8], state: &mut State) -> Result<(), AllocError>
     requires lawful { IsLawful rows.now state.old }
@@ -43,7 +26,7 @@ fn go(alloc: Global, rows: &[u8], state: &mut State) -> Result<(), AllocError>
 }
 
 // What stands in another space after the texts of the state after these rows, and in its own space after these were
-// brought there twice.
+// brought there.
 fn texts(
     rt: &impl Abort,
     alloc: Global,
@@ -51,13 +34,25 @@ fn texts(
     rows: &[u8],
 ) -> Result<(Space, Space), AllocError> {
     assert!(rt; rows.len() < 1000);
-    let mut state = State::opening(alloc, rows, &options(physical))?;
+    let form = loose(physical);
+    let options = Options {
+        stream_name: Span { at: 0, len: 0 },
+        physical: form.physical,
+        generalized: form.generalized,
+        star: form.star,
+        names: 8,
+        prefixes: 8,
+        datatypes: 8,
+        logical: 0,
+        version: form.version,
+        strict: form.strict,
+    };
+    let mut state = State::opening(alloc, rows, &options)?;
     go(alloc, rows, &mut state)?;
     let mut space = Space::from_bytes(alloc, rows)?;
     let mut other = Space::from_bytes(alloc, b"old:")?;
     let _ = state.carry(alloc, &space, &mut other)?;
     let mut aside = Space::from_bytes(alloc, b"aside")?;
-    bring_texts(alloc, &mut state, &mut space, &mut aside)?;
     bring_texts(alloc, &mut state, &mut space, &mut aside)?;
     Ok((space, other))
 }

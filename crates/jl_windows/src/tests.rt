@@ -159,7 +159,7 @@ fn lines_of_a_source(rt: HostRuntime) -> Result<(), Fail> {
         }
         let mut source = MemSource::new(alloc, &file, 10, case.fails)?;
         let mut shelf = MemShelf::new(alloc, 100, case.room, 1, &[])?;
-        let mut left = case.limit;
+        let mut left = case.limit.min(1000);
         let result = decode_source(
             alloc,
             &mut source,
